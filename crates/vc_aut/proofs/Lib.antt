@@ -1,3 +1,5 @@
 pub mod Rows
 pub mod Order
 pub mod Valid
+pub mod Entries
+pub mod Refusals
