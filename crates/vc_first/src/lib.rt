@@ -1,0 +1,10 @@
+//! The first form of automaton files and of word texts.
+#![tactic(auto)]
+
+mod law;
+mod line;
+mod reader;
+
+pub use law::inputs_are_read;
+pub use line::Line;
+pub use reader::{Input, read_input};
