@@ -52,6 +52,7 @@ truth_laws = record {
   times_one = and-true;
   times_zero = and-false;
   times_plus = and-or;
+  one_is_not_zero = λ e. absurd (cc e);
   star_zero = refl;
   star_is = λ a h. refl;
 }
