@@ -5,6 +5,6 @@ mod law;
 mod line;
 mod reader;
 
-pub use law::inputs_are_read;
+pub use law::{inputs_are_read, lines_have_one_series};
 pub use line::Line;
 pub use reader::{Input, read_input};

@@ -5,3 +5,4 @@ pub mod Seen
 pub mod Evaluations
 pub mod Answers
 pub mod Delivery
+pub mod Views
