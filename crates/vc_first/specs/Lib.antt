@@ -3,3 +3,4 @@ pub mod Reading
 pub mod View
 pub mod Views
 pub mod Automata
+pub mod Digits

@@ -4,6 +4,7 @@
 mod law;
 mod line;
 mod reader;
+mod states;
 
 pub use law::{inputs_are_read, lines_have_one_series};
 pub use line::Line;
