@@ -3,3 +3,5 @@ pub mod Order
 pub mod Valid
 pub mod Entries
 pub mod Refusals
+pub mod Inserted
+pub mod Drafted

@@ -3,7 +3,7 @@ use crate::moves::{self, Moves};
 use std::alloc::{AllocError, Global};
 use std::collections::BTreeMap;
 use std::marker::Model;
-use vc_label::LabelSet;
+use vc_label::{LabelSet, words_are_ordered};
 use vc_ring::{Limit, MakeFault, Measure, Overflow, Semiring};
 
 /// An automaton that is being built: it is the sum of what is added.
@@ -129,7 +129,9 @@ impl<L: LabelSet, S: Semiring> Builder<L, S> {
         ensures err { OnErr result (self.new ≡ self.old) }
         ensures answer { IsAnswer (transition_refusal S.set self.old.automaton.transitions (record { from = from; label = L.parts label; to = to; weight = weight })) result }
     {
-        moves::add::<L, S>(&mut self.transitions, from, label, to, weight)
+        words_are_ordered();
+        moves::add::<L, S>(&mut self.transitions, from, label, to, weight)?;
+        Ok(())
     }
 
     /// The automaton of what was added. Transitions whose weights add up to zero are dropped.
