@@ -5,7 +5,6 @@ mod automaton;
 mod builder;
 mod laws;
 mod moves;
-mod starts;
 mod transition;
 
 pub use automaton::Automaton;

@@ -8,7 +8,8 @@ use Rattle.vc_model.proofs.Members.{In-map_from, In-map, NoRepeat-map}
 use Rattle.vc_model.proofs.Pigeons.{no_more_than, same_place}
 use Rattle.vc_first.specs.Grammar.{Line, is_plain}
 use Rattle.vc_first.specs.Automata.{digits_of}
-use Rattle.vc_first.proofs.Numbers.{IsStep, few_digits}
+use Rattle.vc_first.specs.Building.{IsStep}
+use Rattle.vc_first.proofs.Numbers.{few_digits}
 
 plain_small : (x : ℕ) → is_plain x ≡ true → x < 128
 plain_small x h = grind (arith, common_steps)

@@ -2,6 +2,8 @@
 #![tactic(auto)]
 
 mod law;
+mod alphabet;
+mod entries;
 mod line;
 mod reader;
 mod states;
