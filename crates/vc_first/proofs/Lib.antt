@@ -2,6 +2,7 @@ pub mod Steps
 pub mod Spelling
 pub mod Texts
 pub mod Places
+pub mod Alphabets
 pub mod Sums
 pub mod Numbers
 pub mod OneSeries
