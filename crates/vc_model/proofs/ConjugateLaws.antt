@@ -5,7 +5,6 @@ use Rattle.vc_model.specs.Lists.{In, below}
 use Rattle.vc_model.specs.Sums.{sum_over}
 use Rattle.vc_model.specs.Words.{Tape, Word, is_empty, cut, size}
 use Rattle.vc_model.specs.Automata.{Transition, Automaton, IsAutomaton, IsSound, initial_weight, final_weight, future, future_within, coefficient, coefficient_within, first_step, at_rest}
-use Rattle.vc_model.specs.Moves.{moves_sum}
 use Rattle.vc_model.specs.Letters.{HasLetters, step_sum}
 use Rattle.vc_model.specs.Conjugates.{combined, IsConjugate, letter_entry, IsLetterConjugate}
 use Rattle.vc_model.proofs.Rearranged.{one_times}
@@ -18,7 +17,6 @@ use Rattle.vc_model.proofs.Rests.{at_rest_same}
 use Rattle.vc_model.proofs.FirstSteps.{future_within-suc, future_within-zero}
 use Rattle.vc_model.proofs.Bounds.{future_within-bounds}
 use Rattle.vc_model.proofs.FutureLaws.{coefficient_stable}
-use Rattle.vc_model.proofs.LastSteps.{eqb_comm}
 use Rattle.vc_model.proofs.LetterSteps.{future_empty, future_letter, step_sum_same, step_sum-times_right, step_sum-sum}
 
 pub below-In : (n i : ℕ) → In i (below n) → i < n

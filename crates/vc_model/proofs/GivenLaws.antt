@@ -85,7 +85,6 @@ module _ {V : Type 0} {R : WeightSet V} (L : SemiringLaws R) where
       go true = sym (L.times_one c)
       go false = sym (L.times_zero c)
 
-
   -- shuffles
   pick_letter : (b : Bool) (g : Word → V) (v : Tape) → at_rest R.zero g (put_front (cond b (Some v) None) (Some [])) ≡ cond b (g (v ∷ [])) R.zero
   pick_letter true g v = refl
@@ -97,9 +96,6 @@ module _ {V : Type 0} {R : WeightSet V} (L : SemiringLaws R) where
   after_letter ((y ∷ []) ∷ []) i x = (eqb y x, λ v g. pick_letter (eqb y x) g v)
   after_letter ((y ∷ []) ∷ (b ∷ a)) i x = absurd i
   after_letter ((y ∷ z ∷ b) ∷ a) i x = absurd i
-
-
-
 
 module _ {V T : Type 0} {R : WeightSet V} (L : SemiringLaws R) (tapes : ℕ) where
   pub zero_given : (X : T → Series V) → IsGiven R tapes (zero_series R) R.zero X []
@@ -280,4 +276,3 @@ module _ {V T : Type 0} {R : WeightSet V} (L : SemiringLaws R) (tapes : ℕ) whe
       go : (m : Item V T) (r : Option Word) → cut m.label w ≡ r → at_rest R.zero (X m.to) r ≡ at_rest R.zero (Y m.to) r
       go m None q = refl
       go m (Some v) q = h m.to v ((join-cut m.label w v q).1 ∙ l)
-

@@ -150,4 +150,3 @@ module _ {V T : Type 0} {R : WeightSet V} (L : SemiringLaws R) (same : T → T �
 
   pub collected_neat_items : (equal : V → V → Bool) → IsEqualityTest equal → (xs : List (Item V T)) → AreNeat R (collected_items R equal same xs)
   collected_neat_items equal Z xs = record { once = filter_once (λ e. not (equal e.weight R.zero)) (grouped_items R same [] xs) (grouped_once [] xs tt); weight = collected_weight equal Z xs }
-
