@@ -64,7 +64,7 @@ module _ {T : Type 0} (same : T → T → Bool) (Q : IsEqualityTest same) where
       go false p (inl q) r = absurd (false≢true (sym p ∙ ap (same u) q ∙ (Q u u).1 refl))
       go false p (inr j) r = r j
 
-  at-In : (s : T) (ts : List T) (i : ℕ) → i < length ts → In (get_or ts i s) ts
+  pub at-In : (s : T) (ts : List T) (i : ℕ) → i < length ts → In (get_or ts i s) ts
   at-In s [] i l = absurd (omega arith)
   at-In s (t ∷ ts) zero l = inl refl
   at-In s (t ∷ ts) (suc i) l = inr (at-In s ts i (omega arith))
