@@ -2,11 +2,11 @@
 use Rattle.std.proofs.Common.{◌≡◌, ◌≢◌, ℕ, List, [], ◌∷◌, ◌++◌, map, cond, Bool, true, false, ◌&&◌, eqb, get_or, refl, sym, ap, ap₂, ◌∙◌, inl, inr, ◌⊎◌, subst, zero, suc, ◌<◌, ◌+◌, ◌*◌, arith, length, replicate, Option, Some, None}
 use Rattle.std.specs.List.{filter}
 use Rattle.std.proofs.lemmas.Bool.{eqb-true, eq-eqb, false≢true}
-use Rattle.vc_model.specs.WeightSet.{WeightSet, SemiringLaws, Absorbs}
+use Rattle.vc_model.specs.WeightSet.{WeightSet, SemiringLaws}
 use Rattle.vc_model.specs.Lists.{In, NoRepeat, IsEqualityTest, IsIncreasing, below, up_from}
 use Rattle.vc_model.specs.Sums.{sum_over}
 use Rattle.vc_model.specs.Words.{Word, is_empty, size, cut, same_word, join, on}
-use Rattle.vc_model.specs.Automata.{Transition, Automaton, IsAutomaton, IsPath, IsUseful, IsSound, end_of, path_label, path_value, paths, initial_weight, final_weight, future_within, future, coefficient, at_rest, NoEmptyCircuit}
+use Rattle.vc_model.specs.Automata.{Transition, Automaton, IsAutomaton, IsPath, IsSound, end_of, path_label, path_value, paths, initial_weight, final_weight, future_within, future, coefficient, at_rest, NoEmptyCircuit}
 use Rattle.vc_model.specs.Moves.{moves_sum}
 use Rattle.vc_model.specs.Numbering.{is_among}
 use Rattle.vc_model.specs.Machines.{place_in}
@@ -14,7 +14,7 @@ use Rattle.vc_model.specs.Trims.{is_between, placed, IsTrim}
 use Rattle.vc_model.proofs.Rearranged.{zero_times}
 use Rattle.vc_model.proofs.SumLaws.{sum-map, sum-filter, sum_same, sum_zero}
 use Rattle.vc_model.proofs.SameSums.{same_sums}
-use Rattle.vc_model.proofs.Members.{In-map_from, In-filter_from, In-up_from, up_from-In, NoRepeat-up_from}
+use Rattle.vc_model.proofs.Members.{In-map_from, In-filter_from, up_from-In, NoRepeat-up_from}
 use Rattle.vc_model.proofs.WordLaws.{bool_same, and_parts, join-cut}
 use Rattle.vc_model.proofs.PathLaws.{paths-In, IsPath-append, end_of-append}
 use Rattle.vc_model.proofs.Rests.{at_rest_same}
@@ -177,9 +177,13 @@ module _ {V : Type 0} {R : WeightSet V} (L : SemiringLaws R) where
     lifted_label [] = refl
     lifted_label (u ∷ ts) = ap (join u.label) (lifted_label ts)
 
-    pub trim_sound : IsSound R tapes A → IsSound R tapes T
+    pub trim_free : NoEmptyCircuit tapes A → NoEmptyCircuit tapes T
+    trim_free N p u us h b z =
+        N (old p) (lifted u) (map lifted us) (lifted_path p (u ∷ us) h) (lifted_end p (u ∷ us) ∙ ap old b) (ap (λ w. size (on (replicate tapes true) w)) (lifted_label (u ∷ us)) ∙ z)
+
+    trim_sound : IsSound R tapes A → IsSound R tapes T
     trim_sound (inl B) = inl B
-    trim_sound (inr N) = inr (λ p u us h b z. N (old p) (lifted u) (map lifted us) (lifted_path p (u ∷ us) h) (lifted_end p (u ∷ us) ∙ ap old b) (ap (λ w. size (on (replicate tapes true) w)) (lifted_label (u ∷ us)) ∙ z))
+    trim_sound (inr N) = inr (trim_free N)
 
     pub trim_future : IsSound R tapes A → (i : ℕ) (w : Word) → i < length kept → length w ≡ tapes → future R T i w ≡ future R A (old i) w
     trim_future s i w l e =
