@@ -36,6 +36,6 @@ machine R same final items d ts = record {
   transitions = flat_map (λ i. steps_of same items d ts i) (below (length ts));
 }
 
--- the items of each thing of the list lead to things of the list, are neat, and have labels that are not empty
+-- the items of each thing of the list lead to things of the list
 abbrev pub LeadsInto : {V T : Type 0} → (T → List (Item V T)) → List T → Type 0
 LeadsInto {V} {T} items ts = (t : T) → In t ts → (e : Item V T) → In e (items t) → In e.to ts
