@@ -1,0 +1,4 @@
+pub mod Labelled
+pub mod Order
+pub mod Validity
+pub mod Stored

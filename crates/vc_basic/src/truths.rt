@@ -1,0 +1,69 @@
+ghost use Rattle.std.specs.Prelude.{true, refl};
+ghost use Rattle.std.proofs.Common.{arith};
+ghost use Rattle.vc_basic.specs.Truths.{truths, spelled_bit, bit_text};
+ghost use Rattle.vc_basic.specs.TruthLaws.{truth_laws, truth_ranges, truth_absorbs, truth_texts};
+
+use std::alloc::AllocError;
+use vc_ring::{NumberFault, Overflow, Semiring, StarFault};
+
+/// The truth values: sums by or, products by and. Every step fits and every star is one.
+#[derive(Clone, Copy, Debug, PartialEq, Eq)]
+pub struct B;
+
+impl Semiring for B {
+    type Value = bool;
+
+    const ABSORBS: bool = true;
+
+    ghost ABSORBS = { true };
+
+    ghost set = { truths };
+
+    ghost spelled = { spelled_bit };
+
+    ghost numbers_fit = { λ _. true };
+
+    ghost canonical = { bit_text };
+
+    ghost laws = { truth_laws };
+
+    ghost ranges = { truth_ranges };
+
+    ghost same = { λ a b. Prim.grind arith };
+
+    ghost absorbs = { ((λ _. truth_absorbs), (λ _. refl)) };
+
+    ghost texts = { truth_texts };
+
+    fn zero() -> bool {
+        false
+    }
+
+    fn one() -> bool {
+        true
+    }
+
+    fn add(left: bool, right: bool) -> Result<bool, Overflow<bool>> {
+        Ok(left | right)
+    }
+
+    fn mul(left: bool, right: bool) -> Result<bool, Overflow<bool>> {
+        Ok(left & right)
+    }
+
+    fn star(_of: bool) -> Result<bool, StarFault<bool>> {
+        Ok(true)
+    }
+
+    fn read(text: &[u8]) -> Result<bool, NumberFault> {
+        match text {
+            [b'0'] => Ok(false),
+            [b'1'] => Ok(true),
+            _ => Err(NumberFault::Bad),
+        }
+    }
+
+    fn write(value: bool, into: &mut String) -> Result<(), AllocError> {
+        into.push(if value { '1' } else { '0' })
+    }
+}

@@ -1,0 +1,62 @@
+-- The bits of an alphabet.
+use Rattle.std.proofs.Common.{◌≡◌, ℕ, zero, suc, ◌*◌, ◌%◌, ◌^◌, ◌<◌, max, Bool, true, false, ◌||◌, ◌⊎◌, inl, inr, refl, sym, subst, ◌∙◌, arith, IsTrue, bit_or}
+use Rattle.std.specs.Int.{bit_at, w128}
+use Rattle.std.specs.Bool.{◌==◌}
+use Rattle.std.proofs.lemmas.Nat.Bits.{bit_at_or, bit_at_set_same, bit_at_set_other, bit_at-lt}
+use Rattle.std.proofs.lemmas.Bool.Decides.{eqb_tells}
+use Rattle.std.proofs.lemmas.Grind.{common_steps}
+use Rattle.vc_label.specs.Letters.{is_letter}
+
+is_bit : (m : ℕ) → m < 2 → (m ≡ 0) ⊎ (m ≡ 1)
+is_bit zero l = inl refl
+is_bit (suc zero) l = inr refl
+is_bit (suc (suc m)) l = absurd (omega arith)
+
+or_true : (b : Bool) → true ≡ (b || true)
+or_true true = refl
+or_true false = refl
+
+or_false : (b : Bool) → b ≡ (b || false)
+or_false true = refl
+or_false false = refl
+
+-- one more bit
+pub set_bit : (n k x : ℕ) → k < 128 → (bit_at (bit_or n (1 * 2 ^ k % 2 ^ 128)) x == 1) ≡ ((bit_at n x == 1) || (x == k))
+set_bit n k x l = elim (eqb_tells x k) [
+  | inl p ↦ let e : bit_at (bit_or n (1 * 2 ^ k % 2 ^ 128)) x ≡ 1 = rw p.1 (bit_at_set_same w128 n k l) in rw (e, p.0) (or_true (bit_at n x == 1))
+  | inr p ↦ rw (bit_at_set_other w128 n k l x p.1, p.0) (or_false (bit_at n x == 1))
+]
+
+or_bits : (a b : ℕ) → (a ≡ 0) ⊎ (a ≡ 1) → (b ≡ 0) ⊎ (b ≡ 1) → (max a b == 1) ≡ ((a == 1) || (b == 1))
+or_bits a b (inl p) (inl q) = rw (p, q) refl
+or_bits a b (inl p) (inr q) = rw (p, q) refl
+or_bits a b (inr p) (inl q) = rw (p, q) refl
+or_bits a b (inr p) (inr q) = rw (p, q) refl
+
+-- the bits of both
+pub or_bit : (m n x : ℕ) → (bit_at (bit_or m n) x == 1) ≡ ((bit_at m x == 1) || (bit_at n x == 1))
+or_bit m n x = rw (bit_at_or m n x) (or_bits (bit_at m x) (bit_at n x) (is_bit (bit_at m x) (bit_at-lt m x)) (is_bit (bit_at n x) (bit_at-lt n x)))
+
+-- only letters
+abbrev pub OnlyLetters : ℕ → Type 0
+OnlyLetters n = (x : ℕ) → bit_at n x ≡ 1 → IsTrue (is_letter x)
+
+pub set_letter : (n k : ℕ) → OnlyLetters n → IsTrue (is_letter k) → OnlyLetters (bit_or n (1 * 2 ^ k % 2 ^ 128))
+set_letter n k h l x e =
+    let lt : k < 128 = grind (arith, common_steps) in
+    elim (eqb_tells x k) [
+      | inl p ↦ subst (λ y. IsTrue (is_letter y)) (sym p.1) l
+      | inr p ↦ h x (sym (bit_at_set_other w128 n k lt x p.1) ∙ e)
+    ]
+
+or_one : (a b : ℕ) → (a ≡ 0) ⊎ (a ≡ 1) → (b ≡ 0) ⊎ (b ≡ 1) → max a b ≡ 1 → (a ≡ 1) ⊎ (b ≡ 1)
+or_one a b (inl p) (inl q) e = absurd (omega arith)
+or_one a b (inl p) (inr q) e = inr q
+or_one a b (inr p) q e = inl p
+
+pub or_letters : (m n : ℕ) → OnlyLetters m → OnlyLetters n → OnlyLetters (bit_or m n)
+or_letters m n h k x e =
+    elim (or_one (bit_at m x) (bit_at n x) (is_bit (bit_at m x) (bit_at-lt m x)) (is_bit (bit_at n x) (bit_at-lt n x)) (sym (bit_at_or m n x) ∙ e)) [
+      | inl p ↦ h x p
+      | inr p ↦ k x p
+    ]

@@ -1,0 +1,9 @@
+pub mod Letters
+pub mod Tapes
+pub mod Borrowed
+pub mod Owned
+pub mod Growth
+pub mod Order
+pub mod Alphabets
+pub mod Sets
+pub mod Faults

@@ -1,0 +1,16 @@
+//! Words of one to four tapes, alphabets, and what a set of labels is.
+#![tactic(auto)]
+
+mod alphabet;
+mod label_set;
+mod laws;
+mod tape_set;
+mod word;
+mod word_buf;
+
+pub use alphabet::Alphabet;
+pub use label_set::{LabelFault, LabelSet};
+pub use laws::words_are_ordered;
+pub use tape_set::{TapeKind, TapeSet};
+pub use word::Word;
+pub use word_buf::WordBuf;

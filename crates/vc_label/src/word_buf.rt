@@ -1,0 +1,116 @@
+ghost use Rattle.std.specs.Prelude.{◌≡◌, ◌<◌, ◌≤◌, [], ◌∷◌, ◌++◌, length, OnOk, OnErr, IsTrue, replicate, true};
+ghost use Rattle.vc_label.specs.Letters.{is_letter, are_letters};
+ghost use Rattle.vc_label.specs.Growth.{grown};
+ghost use Rattle.vc_model.specs.Words.{empty_word};
+
+use crate::word::Word;
+use std::alloc::{AllocError, Global};
+use std::marker::Model;
+
+/// The tapes of a word that grows.
+#[derive(Drop)]
+enum Lists {
+    One(Vec<u8>),
+    Two(Vec<u8>, Vec<u8>),
+    Three(Vec<u8>, Vec<u8>, Vec<u8>),
+    Four(Vec<u8>, Vec<u8>, Vec<u8>, Vec<u8>),
+}
+
+/// An owned word that grows: one to four tapes, each a list of letters.
+#[derive(Drop)]
+pub struct WordBuf {
+    lists: Lists,
+}
+
+impl Model for WordBuf {
+    ghost use Rattle.std.specs.Prelude.{IsTrue};
+    ghost use Rattle.vc_model.specs.Words.{Word};
+    ghost use Rattle.vc_label.specs.Letters.{is_of_letters};
+    ghost use Rattle.vc_label.specs.Owned.{word_in};
+
+    ghost Value = { Word };
+
+    ghost view = { λ b. word_in b.lists };
+
+    ghost invariant = { λ b. IsTrue (is_of_letters (word_in b.lists)) };
+}
+
+impl WordBuf {
+    ghost use Rattle.vc_label.specs.Borrowed.{word_of};
+
+    /// The empty word of 1 to 4 tapes. It takes no memory.
+    pub fn new(alloc: Global, tapes: usize) -> WordBuf
+        requires low { 1 ≤ tapes }
+        requires high { tapes ≤ 4 }
+        ensures { result ≡ empty_word tapes }
+    {
+        let lists = match tapes {
+            1 => Lists::One(Vec::new(alloc)),
+            2 => Lists::Two(Vec::new(alloc), Vec::new(alloc)),
+            3 => Lists::Three(Vec::new(alloc), Vec::new(alloc), Vec::new(alloc)),
+            _ => Lists::Four(
+                Vec::new(alloc),
+                Vec::new(alloc),
+                Vec::new(alloc),
+                Vec::new(alloc),
+            ),
+        };
+        WordBuf { lists }
+    }
+
+    /// Appends a letter to a tape.
+    #[tactic(auto, using(crate::proofs::Letters::are_letters_push))]
+    pub fn push(&mut self, tape: usize, letter: u8) -> Result<(), AllocError>
+        requires exists { tape < length self.old }
+        requires letter { IsTrue (is_letter letter) }
+        ensures ok { OnOk result (self.new ≡ grown self.old tape (letter ∷ [])) }
+        ensures err { OnErr result (self.new ≡ self.old) }
+    {
+        match (&mut self.lists, tape) {
+            (Lists::One(a), _) => return Ok(a.push(letter)?),
+            (Lists::Two(a, _), 0) => return Ok(a.push(letter)?),
+            (Lists::Two(_, b), _) => return Ok(b.push(letter)?),
+            (Lists::Three(a, _, _), 0) => return Ok(a.push(letter)?),
+            (Lists::Three(_, b, _), 1) => return Ok(b.push(letter)?),
+            (Lists::Three(_, _, c), _) => return Ok(c.push(letter)?),
+            (Lists::Four(a, _, _, _), 0) => return Ok(a.push(letter)?),
+            (Lists::Four(_, b, _, _), 1) => return Ok(b.push(letter)?),
+            (Lists::Four(_, _, c, _), 2) => return Ok(c.push(letter)?),
+            (Lists::Four(_, _, _, d), _) => return Ok(d.push(letter)?),
+        }
+    }
+
+    /// Appends letters to a tape.
+    #[tactic(auto, using(crate::proofs::Letters::are_letters_append))]
+    pub fn extend(&mut self, tape: usize, letters: &[u8]) -> Result<(), AllocError>
+        requires exists { tape < length self.old }
+        requires letters { IsTrue (are_letters letters.now) }
+        ensures ok { OnOk result (self.new ≡ grown self.old tape letters.now) }
+        ensures err { OnErr result (self.new ≡ self.old) }
+    {
+        match (&mut self.lists, tape) {
+            (Lists::One(a), _) => return Ok(a.extend_from_slice(letters)?),
+            (Lists::Two(a, _), 0) => return Ok(a.extend_from_slice(letters)?),
+            (Lists::Two(_, b), _) => return Ok(b.extend_from_slice(letters)?),
+            (Lists::Three(a, _, _), 0) => return Ok(a.extend_from_slice(letters)?),
+            (Lists::Three(_, b, _), 1) => return Ok(b.extend_from_slice(letters)?),
+            (Lists::Three(_, _, c), _) => return Ok(c.extend_from_slice(letters)?),
+            (Lists::Four(a, _, _, _), 0) => return Ok(a.extend_from_slice(letters)?),
+            (Lists::Four(_, b, _, _), 1) => return Ok(b.extend_from_slice(letters)?),
+            (Lists::Four(_, _, c, _), 2) => return Ok(c.extend_from_slice(letters)?),
+            (Lists::Four(_, _, _, d), _) => return Ok(d.extend_from_slice(letters)?),
+        }
+    }
+
+    /// The word, lent.
+    pub fn word(&self) -> Word<'_>
+        ensures { word_of result ≡ self.now }
+    {
+        match &self.lists {
+            Lists::One(a) => Word::one(a),
+            Lists::Two(a, b) => Word::two(a, b),
+            Lists::Three(a, b, c) => Word::three(a, b, c),
+            Lists::Four(a, b, c, d) => Word::four(a, b, c, d),
+        }
+    }
+}
