@@ -1,26 +1,29 @@
 -- What the builder adds keeps what is true of each draft.
 use Rattle.std.proofs.Common.{◌≡◌, ◌∙◌, sym, ap, subst, refl, ℕ, suc, ◌+◌, ◌≤◌, ◌<◌, Bool, true, false, List, [], ◌∷◌, map, length, cond, None, Some, Option, Less, Equal, Greater, arith, IsTrue, All}
-use Rattle.std.specs.Prelude.{nat_lt}
+use Rattle.std.specs.Prelude.{nat_lt, not, ◌≢◌}
+use Rattle.std.specs.List.{filter}
 use Rattle.std.specs.List.{AllByRecursion}
 use Rattle.std.specs.Ordering.{match_ordering, is_eq}
 use Rattle.std.specs.Cmp.{IsTotalOrder}
 use Rattle.std.specs.declared.cmp.Ordering.{Ordering}
-use Rattle.std.proofs.lemmas.List.Elements.{All-nil, All-cons, All-head, All-tail, All-map}
+use Rattle.std.proofs.lemmas.List.Elements.{All-nil, All-cons, All-head, All-tail, All-filter, All-weaker, filter_passes}
+use Rattle.std.proofs.lemmas.List.Kept.{IsStrictlySortedBy-filter}
 use Rattle.std.proofs.lemmas.Grind.{common_steps}
 use Rattle.vc_label.specs.declared.tape_set.TapeSet.{TapeSet}
 use Rattle.vc_model.specs.Automata.{Transition}
+use Rattle.vc_model.specs.Lists.{IsEqualityTest}
 use Rattle.vc_model.specs.WeightSet.{WeightSet, RangeLaws}
 use Rattle.vc_model.specs.Words.{Word}
 use Rattle.vc_ring.specs.declared.faults.MakeFault.{MakeFault}
 use Rattle.vc_ring.specs.declared.faults.MakeFault.TheVariants.{Overflow as Unfit, Limit as PastLimit}
 use Rattle.vc_ring.specs.declared.faults.Measure.TheVariants.{Transitions}
 use Rattle.vc_ring.specs.declared.faults.Overflow.TheVariants.{Add}
-use Rattle.vc_aut.specs.Drafts.{Draft, IsDraft, empty_draft, with_transition}
+use Rattle.vc_aut.specs.Drafts.{Draft, IsDraft, empty_draft, finished, with_transition}
 use Rattle.vc_aut.specs.Order.{triple_order, AreInOrder}
 use Rattle.vc_aut.specs.Refusals.{weight_refusal, transition_refusal}
 use Rattle.vc_aut.specs.Stored.{entry_transition}
 use Rattle.vc_aut.specs.Sums.{insert_transition, standing}
-use Rattle.vc_aut.specs.Validity.{IsDrawn, IsMove}
+use Rattle.vc_aut.specs.Validity.{IsLabelled, IsMove}
 use Rattle.vc_aut.proofs.Inserted.{in_order-none, in_order-inserted, length-inserted, length-inserted_old}
 
 module _ {V : Type 0} (R : WeightSet V) where
@@ -102,3 +105,24 @@ weights-in_range {B} {V} R parts sets n (e ∷ es) h =
     All-cons (λ (e : (ℕ × B × ℕ) × V). IsTrue (R.in_range e.1)) e es
     (All-head (IsMove R sets n) (entry_transition parts e) (map (entry_transition parts) es) h).weight
     (weights-in_range R parts sets n es (All-tail (IsMove R sets n) (entry_transition parts e) (map (entry_transition parts) es) h))
+
+module _ {V : Type 0} (R : WeightSet V) (same : V → V → Bool) (tells : IsEqualityTest same) where
+  not_zero : (w : V) → not (same w R.zero) ≡ true → w ≢ R.zero
+  not_zero w h e = let z : same w R.zero ≡ true = (tells w R.zero).1 e in cc
+
+  -- what the builder leaves is an automaton
+  pub finished_is_labelled : (d : Draft V) → IsDraft R d → IsLabelled R (finished R same d)
+  finished_is_labelled d h =
+      let kept : Transition V → Bool = λ t. not (same t.weight R.zero) in
+      record {
+        drawn = record {
+          initial = h.drawn.initial;
+          final = h.drawn.final;
+          initial_in = h.drawn.initial_in;
+          final_in = h.drawn.final_in;
+          moves = All-filter kept (IsMove R d.sets d.automaton.states) d.automaton.transitions h.drawn.moves;
+          order = IsStrictlySortedBy-filter triple_order kept d.automaton.transitions h.drawn.order;
+        };
+        states = let most : d.most ≤ 1000000 = h.most in let states : d.automaton.states ≤ d.most = h.states in omega arith;
+        weight = All-weaker (λ (t : Transition V). kept t ≡ true) (λ (t : Transition V). t.weight ≢ R.zero) (λ t e. not_zero t.weight e) (filter kept d.automaton.transitions) (filter_passes kept d.automaton.transitions);
+      }
