@@ -5,9 +5,10 @@ mod automaton;
 mod builder;
 mod laws;
 mod moves;
+mod starts;
 mod transition;
 
 pub use automaton::Automaton;
 pub use builder::Builder;
-pub use laws::automata_are_valid;
+pub use laws::{automata_are_valid, drafts_are_valid};
 pub use transition::Transition;

@@ -1,4 +1,5 @@
 ghost use Rattle.std.specs.Prelude.{◌≡◌, ◌≤◌, All, IfOk, IsTrue, OnOk, OnErr, length, map};
+ghost use Rattle.vc_aut.specs.Drafts.{without_zeros};
 ghost use Rattle.vc_aut.specs.Refusals.{IsAnswer, transition_refusal};
 ghost use Rattle.vc_aut.specs.Stored.{entry_transition, transition_of};
 ghost use Rattle.vc_aut.specs.Sums.{insert_transition};
@@ -52,3 +53,18 @@ pub(crate) fn add<L: LabelSet, S: Semiring>(
     }
 }
 
+/// The transitions whose weight is not zero, in order.
+pub(crate) fn finish<L: LabelSet, S: Semiring>(
+    alloc: Global,
+    moves: Moves<L, S>,
+) -> Result<Vec<Transition<L, S>>, AllocError>
+    ensures { IfOk result (λ v. map (transition_of L.parts) v.items ≡ without_zeros S.set S.Value.eq (map (entry_transition L.parts) moves.entries)) }
+{
+    let mut transitions = Vec::with_capacity(alloc, moves.len())?;
+    for ((from, label, to), weight) in moves {
+        if weight != S::zero() {
+            transitions.push(Transition { from, label, to, weight })?;
+        }
+    }
+    Ok(transitions)
+}

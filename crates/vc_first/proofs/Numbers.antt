@@ -11,7 +11,6 @@ use Rattle.vc_model.specs.Automata.{Automaton, Transition, IsAutomaton, triple}
 use Rattle.vc_model.specs.Gathered.{IsGathered}
 use Rattle.vc_model.proofs.GatheredLaws.{gathered_from}
 use Rattle.vc_first.specs.Grammar.{Line, initial_at, final_at, moves, IsLine}
-use Rattle.vc_first.specs.Building.{IsStep}
 use Rattle.vc_first.specs.Automata.{names, is_state, digits_of, number_of, transitions_by, IsAutomatonOf}
 
 -- how many numbers below n pass the test
@@ -91,6 +90,14 @@ initial_below alphabet lines n i h = number_below lines n h (named lines (initia
 
 pub final_below : (alphabet : List ℕ) (lines : List Line) (n : ℕ) → In (final_at n) lines → IsLine alphabet (final_at n) → number_of lines n < length (digits_of lines)
 final_below alphabet lines n i h = number_below lines n h (named lines (final_at n) n i (eq-eqb n n refl))
+
+-- a transition that lines give: two states of their automaton, and one letter of the alphabet
+pub record IsStep {V : Type 0} (alphabet : List ℕ) (lines : List Line) (t : Transition V) : Type 0 where
+  pub letter : ℕ
+  pub inside : In letter alphabet
+  pub label : t.label ≡ (letter ∷ []) ∷ []
+  pub from : t.from < length (digits_of lines)
+  pub to : t.to < length (digits_of lines)
 
 module _ {V : Type 0} (R : WeightSet V) (alphabet : List ℕ) (lines : List Line) (each : (l : Line) → In l lines → IsLine alphabet l) where
   step_of : (l : Line) → In l lines → (t : Transition V) → In t (transitions_by R (number_of lines) l) → IsStep alphabet lines t

@@ -1,30 +1,47 @@
 -- How lines are added to an automaton that is being built.
-use Rattle.std.specs.Prelude.{◌≡◌, ◌<◌, ℕ, zero, suc, List, [], ◌∷◌, length, ⊤, false}
-use Rattle.std.specs.List.{flat_map}
+use Rattle.std.specs.Prelude.{◌≡◌, ◌≤◌, ◌<◌, ℕ, zero, suc, Bool, true, false, List, [], ◌∷◌, map, take, count_by, ⊤}
 use Rattle.vc_aut.specs.Drafts.{Draft, with_state, with_initial, with_final, with_transition}
-use Rattle.vc_aut.specs.Order.{AreInOrder}
+use Rattle.vc_label.specs.Alphabets.{has_letter}
+use Rattle.vc_label.specs.declared.alphabet.Alphabet.{Alphabet}
+use Rattle.vc_label.specs.declared.tape_set.TapeKind.TheVariants.{Letters}
+use Rattle.vc_label.specs.declared.tape_set.TapeSet.{TapeSet}
 use Rattle.vc_model.specs.Automata.{Transition}
 use Rattle.vc_model.specs.Lists.{In}
 use Rattle.vc_model.specs.WeightSet.{WeightSet}
 use Rattle.vc_ring.specs.Steps.{fits}
 use Rattle.vc_ring.specs.declared.faults.MakeFault.{MakeFault}
 use Rattle.vc_ring.specs.declared.faults.MakeFault.TheVariants.{Overflow, Limit, Memory}
-use Rattle.vc_first.specs.Automata.{digits_of, transitions_by}
+use Rattle.vc_first.specs.Automata.{names, transitions_by}
 use Rattle.vc_first.specs.Grammar.{Line, initial_at, final_at, moves}
 
--- a transition that lines give: two states of their automaton, and one letter of the alphabet
-pub record IsStep {V : Type 0} (alphabet : List ℕ) (lines : List Line) (t : Transition V) : Type 0 where
-  pub letter : ℕ
-  pub inside : In letter alphabet
-  pub label : t.label ≡ (letter ∷ []) ∷ []
-  pub from : t.from < length (digits_of lines)
-  pub to : t.to < length (digits_of lines)
+-- labels of one letter of the alphabet
+abbrev pub letter_sets : Alphabet → List TapeSet
+letter_sets alphabet = record { kind = Letters; alphabet = alphabet } ∷ []
 
--- a draft with the states of the lines and some of their transitions
-pub record IsBegun {V : Type 0} (alphabet : List ℕ) (lines : List Line) (d : Draft V) : Type 0 where
-  pub states : d.automaton.states ≡ length (digits_of lines)
-  pub steps : (t : Transition V) → In t d.automaton.transitions → IsStep alphabet lines t
-  pub order : AreInOrder d.automaton.transitions
+-- the letters of the line's transitions are in the alphabet
+abbrev pub HasLetters : Alphabet → Line → Type 0
+HasLetters alphabet (initial_at n) = ⊤
+HasLetters alphabet (final_at n) = ⊤
+HasLetters alphabet (moves n m letters) = (x : ℕ) → In x letters → has_letter alphabet x ≡ true
+
+-- a draft with at most ten states, and with labels of one letter of the alphabet
+pub record IsSmall {V : Type 0} (alphabet : Alphabet) (d : Draft V) : Type 0 where
+  pub most : d.most ≤ 10
+  pub sets : d.sets ≡ letter_sets alphabet
+
+-- the same bounds, labels and number of states
+pub record KeepsStates {V : Type 0} (old new : Draft V) : Type 0 where
+  pub most : new.most ≡ old.most
+  pub sets : new.sets ≡ old.sets
+  pub states : new.automaton.states ≡ old.automaton.states
+
+-- the number of a digit's state, from which digits are states: how many smaller ones are
+abbrev pub number_in : List Bool → ℕ → ℕ
+number_in named d = count_by (λ b. b) (take d named)
+
+-- the digits of the line have numbers below n
+abbrev pub HasNumbers : (ℕ → ℕ) → ℕ → Line → Type 0
+HasNumbers number n line = (d : ℕ) → d < 10 → names d line ≡ true → number d < n
 
 module _ {V : Type 0} (R : WeightSet V) where
   -- so many states more
@@ -37,11 +54,15 @@ module _ {V : Type 0} (R : WeightSet V) where
   with_transitions d [] = d
   with_transitions d (t ∷ ts) = with_transitions (with_transition R d t) ts
 
+  -- the transition from one state to another with a letter, of weight one
+  abbrev pub letter_move : ℕ → ℕ → ℕ → Transition V
+  letter_move from to x = record { from = from; label = (x ∷ []) ∷ []; to = to; weight = R.one }
+
   -- what a line adds, where number gives the number of a digit's state
   abbrev pub with_line : (ℕ → ℕ) → Draft V → Line → Draft V
   with_line number d (initial_at n) = with_initial R d (number n) R.one
   with_line number d (final_at n) = with_final R d (number n) R.one
-  with_line number d (moves n m letters) = with_transitions d (transitions_by R number (moves n m letters))
+  with_line number d (moves n m letters) = with_transitions d (map (letter_move (number n) (number m)) letters)
 
   -- what lines add, one after the other
   abbrev pub with_lines : (ℕ → ℕ) → Draft V → List Line → Draft V
