@@ -2,5 +2,9 @@
 #![tactic(auto)]
 
 mod letters;
+mod nullable;
+mod words;
 
 pub use letters::{Letter, Letters};
+pub use nullable::Nullable;
+pub use words::{WordLabel, Words};

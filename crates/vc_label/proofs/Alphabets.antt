@@ -60,3 +60,22 @@ or_letters m n h k x e =
       | inl p ↦ h x p
       | inr p ↦ k x p
     ]
+
+only_letters_IsProp : (n : ℕ) → IsProp (OnlyLetters n)
+only_letters_IsProp n = hlevel
+
+-- alphabets with the same bits
+same_bits : (s t : Alphabet) → s.bits ≡ t.bits → s ≡ t
+same_bits s t e = subst (λ (n : ℕ). (l : OnlyLetters n) → s ≡ record { bits = n; letters = l }) e (λ l. ap (λ (k : OnlyLetters s.bits). (let r : Alphabet = record { bits = s.bits; letters = k } in r)) (only_letters_IsProp s.bits s.letters l)) t.letters
+
+bit_of_test : (a b : ℕ) → (a ≡ 0) ⊎ (a ≡ 1) → (b ≡ 0) ⊎ (b ≡ 1) → (a == 1) ≡ (b == 1) → a ≡ b
+bit_of_test a b (inl p) (inl q) e = p ∙ sym q
+bit_of_test a b (inl p) (inr q) e = let f : false ≡ true = rw (p, q) at e in absurd (true≢false (sym f))
+bit_of_test a b (inr p) (inl q) e = let f : true ≡ false = rw (p, q) at e in absurd (true≢false f)
+bit_of_test a b (inr p) (inr q) e = p ∙ sym q
+
+pub same_alphabets : (s t : Alphabet) → ((x : ℕ) → has_letter s x ≡ has_letter t x) → s ≡ t
+same_alphabets s t h = same_bits s t (same_from_bits s.bits t.bits (λ x. bit_of_test (bit_at s.bits x) (bit_at t.bits x) (is_bit (bit_at s.bits x) (bit_at-lt s.bits x)) (is_bit (bit_at t.bits x) (bit_at-lt t.bits x)) (h x)))
+
+pub letters_only : (s : Alphabet) (x : ℕ) → has_letter s x ≡ true → IsTrue (is_letter x)
+letters_only s x h = s.letters x ((Decides-eqb (bit_at s.bits x) 1).0 h)
