@@ -10,7 +10,7 @@ mod word_buf;
 
 pub use alphabet::Alphabet;
 pub use label_set::{LabelFault, LabelSet};
-pub use laws::words_are_ordered;
+pub use laws::{alphabets_are_sets, words_are_ordered};
 pub use tape_set::{TapeKind, TapeSet};
 pub use word::Word;
 pub use word_buf::WordBuf;
