@@ -5,6 +5,8 @@ mod alphabet;
 mod label_set;
 mod laws;
 mod tape_set;
+#[cfg(test)]
+mod tests;
 mod word;
 mod word_buf;
 
