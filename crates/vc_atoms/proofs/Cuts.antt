@@ -1,6 +1,5 @@
 -- Cuts of words of one tape, by prefixes.
-use Rattle.std.proofs.Common.{◌≡◌, ℕ, suc, Bool, true, false, List, [], ◌∷◌, length, take, drop, cond, nat_eq, Option, Some, None, refl, sym, ap, ◌∙◌, inl, inr, arith, slice_index_or, IsTrue}
-use Rattle.std.specs.Prelude.{◌&&◌}
+use Rattle.std.proofs.Common.{◌≡◌, ℕ, true, false, [], ◌∷◌, length, take, drop, cond, nat_eq, Some, None, refl, sym, ◌∙◌, inl, inr, arith, slice_index_or, IsTrue}
 use Rattle.std.specs.Cmp.Lexicographic.{pointwise}
 use Rattle.std.proofs.lemmas.Bool.Decides.{eqb_tells, Decides-eqb}
 use Rattle.vc_label.proofs.Letters.{are_letters_drop}
@@ -12,9 +11,9 @@ pub rest_by_prefix : (a b : Tape) → rest_after a b ≡ cond (pointwise nat_eq 
 rest_by_prefix [] b = refl
 rest_by_prefix (x ∷ a) [] = refl
 rest_by_prefix (x ∷ a) (y ∷ b) = elim (eqb_tells x y) [
-    inl p ↦ let e : nat_eq y x ≡ true = (Decides-eqb y x).1 (sym p.1) in rw (p.0, e) (rest_by_prefix a b)
+  | inl p ↦ let e : nat_eq y x ≡ true = (Decides-eqb y x).1 (sym p.1) in rw (p.0, e) (rest_by_prefix a b)
   | inr p ↦ let e : nat_eq y x ≡ false = grind arith in rw (p.0, e) refl
-  ]
+]
 
 cut_one : (a : Tape) (w : Word) → 1 ≡ length w → cut (a ∷ []) w ≡ put_front (rest_after a (slice_index_or w 0 [])) (Some [])
 cut_one a [] h = absurd (omega arith)

@@ -1,15 +1,13 @@
 -- The laws of a letter that may be absent.
-use Rattle.std.proofs.Common.{◌≡◌, ℕ, ◌≤◌, Bool, true, false, List, [], ◌∷◌, length, refl, ap, IsTrue, nat_eq, nat_cmp, Less, Equal, Greater, arith, Option, Some, None}
-use Rattle.std.specs.Prelude.{◌↔◌, ◌&&◌}
+use Rattle.std.proofs.Common.{◌≡◌, true, [], ◌∷◌, refl, IsTrue, nat_eq, nat_cmp, arith, Option, Some, None}
+use Rattle.std.specs.Prelude.{◌↔◌}
 use Rattle.std.specs.Option.{option_eq, option_cmp}
-use Rattle.std.specs.declared.cmp.Ordering.{Ordering}
-use Rattle.std.proofs.lemmas.Grind.{common_steps}
 use Rattle.vc_atoms.specs.declared.letters.Letter.{Letter}
 use Rattle.vc_atoms.specs.Labels.{one_tape, letter_of_letters, same_letters, letters_in_order}
-use Rattle.vc_label.specs.Letters.{is_letter, are_letters, is_of_letters}
+use Rattle.vc_label.specs.Letters.{is_of_letters}
 use Rattle.vc_label.specs.Order.{word_order}
 use Rattle.vc_label.specs.Sets.{IsSingleWord}
-use Rattle.vc_model.specs.Words.{Word, Tape}
+use Rattle.vc_model.specs.Words.{Tape}
 
 -- the letter, or none
 abbrev pub letters_in : Option Letter → Tape

@@ -46,7 +46,6 @@ impl Letters {
     ghost use Rattle.std.specs.Prelude.{◌≡◌, ◌∷◌, []};
     ghost use Rattle.vc_label.specs.declared.tape_set.TapeKind.TheVariants.{Letters as LettersKind};
     ghost use Rattle.vc_label.specs.declared.tape_set.TapeSet.{TapeSet};
-    ghost use Rattle.vc_atoms.specs.Labels.{IsOneLetter};
 
     /// The letters of the alphabet.
     pub fn new(alphabet: Alphabet) -> Letters
@@ -54,11 +53,6 @@ impl Letters {
     {
         Letters { alphabet }
     }
-
-    /// A law: each label has one part, which is one letter.
-    pub fn have_one_letter()
-        ensures { (l : Letter) → IsOneLetter (⟦<Letters as LabelSet>⟧.parts l) }
-    {}
 }
 
 impl LabelSet for Letters {
