@@ -1,5 +1,5 @@
 -- The search for a number and for a name.
-use Rattle.std.proofs.Common.{◌≡◌, ◌≢◌, ◌<◌, ◌+◌, ◌⊎◌, ℕ, zero, suc, List, [], ◌∷◌, map, length, drop, get_or, string_bytes, nat_eq, Bool, true, false, ◌||◌, eq-eqb, refl, inl, inr, sym, subst, ap₂, arith, ◌∙◌, ap}
+use Rattle.std.proofs.Common.{◌≡◌, ◌≢◌, ◌<◌, ◌+◌, ℕ, zero, suc, List, [], ◌∷◌, map, length, drop, get_or, string_bytes, nat_eq, Bool, true, false, ◌||◌, eq-eqb, refl, inl, inr, sym, subst, ap₂, arith, ◌∙◌, ap}
 use Rattle.std.proofs.lemmas.Cmp.{nat_list_eq_equiv}
 use Rattle.std.proofs.lemmas.Bool.{and_parts, eqb-true}
 use Rattle.std.specs.List.{list_any}

@@ -32,6 +32,7 @@ held_or_not (f ∷ files) name = at (same_or_not f.0 name) (held_or_not files na
     none : f.0 ≢ name → Lacks files name → (bytes : Bytes) → Holds (f ∷ files) name bytes → ⊥
     none n l bytes (inl p) = n p.0
     none n l bytes (inr p) = l bytes p.1
+
     at : (f.0 ≡ name) ⊎ (f.0 ≢ name) → ((bytes : Bytes) × Holds files name bytes) ⊎ Lacks files name → ((bytes : Bytes) × Holds (f ∷ files) name bytes) ⊎ Lacks (f ∷ files) name
     at (inl e) rest = inl (f.1, inl (e, refl))
     at (inr n) (inl h) = inl (h.0, inr (n, h.1))

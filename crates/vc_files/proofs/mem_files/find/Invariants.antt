@@ -1,5 +1,4 @@
 use Rattle.std.proofs.Common.{map, drop}
-use Rattle.vc_files.specs.Files.{Bytes, Holds}
 use Rattle.vc_files.specs.MemFile.{entry}
 use Rattle.vc_files.proofs.Names.{SameFile}
 use Rattle.vc_files.proofs.mem_files.find.Given as goal
