@@ -9,12 +9,14 @@ use Rattle.vc_files.specs.declared.mem_files.MemFile.{MemFile}
 use Rattle.vc_files.specs.Files.{Bytes, Held, Holds}
 use Rattle.vc_files.specs.MemFile.{entry}
 
+-- texts that are equal place by place are the same
 pub names_same : (a b : List ℕ) → pointwise nat_eq a b ≡ true → a ≡ b
 names_same [] [] h = refl
 names_same [] (y ∷ b) h = absurd (cc h)
 names_same (x ∷ a) [] h = absurd (cc h)
 names_same (x ∷ a) (y ∷ b) h = let p = and_parts (nat_eq x y) (pointwise nat_eq a b) h in ap₂ (λ u v. u ∷ v) (eqb-true x y p.0) (names_same a b p.1)
 
+-- texts that differ in some place are not the same
 pub names_differ : (a b : List ℕ) → pointwise nat_eq a b ≡ false → a ≢ b
 names_differ a b e q = absurd (cc (e, nat_list_eq_equiv.refl a, q))
 

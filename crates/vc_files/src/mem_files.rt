@@ -1,5 +1,5 @@
 ghost use Rattle.std.specs.Prelude.{◌≡◌, ◌+◌, ◌-◌, ◌^◌, ◌<◌, ◌≤◌, ◌∷◌, [], ℕ, Some, map, min, length, IfOk, IsErrOf, MatchOption};
-ghost use Rattle.vc_files.specs.Files.{Bytes, Holds, Lacks, Tells, Shows, Grows, Added};
+ghost use Rattle.vc_files.specs.Files.{Bytes, Holds, Lacks, Grows, Added};
 ghost use Rattle.vc_files.specs.Reading.{IsUnfailed, Brings, Records, Fails, HasReadCause, IsFailedOrMemory};
 ghost use Rattle.vc_files.specs.MemFile.{entry};
 
@@ -59,8 +59,8 @@ impl MemFiles {
         }
     }
 
-    #[tactic(auto, using(crate::proofs::Names::number_in, crate::proofs::Names::number_out))]
     /// The bytes that the call of this number finds under a name, unless it fails.
+    #[tactic(auto, using(crate::proofs::Names::number_in, crate::proofs::Names::number_out))]
     fn look_up(&self, number: u64, name: &str) -> Option<&[u8]>
         ensures { MatchOption result (Fails (mem_failing self.now) number (mem_held self.now) name.now)
             (λ bytes. (¬ Fails (mem_failing self.now) number (mem_held self.now) name.now) × Holds (mem_held self.now) name.now bytes.now) }
@@ -79,9 +79,9 @@ impl Files for MemFiles {
 
     ghost faults = { λ s. mem_faults s };
 
-    #[tactic(auto, using(crate::proofs::OneFile::one_file))]
     /// Copies the name and makes room for it among the faults, which may answer `Memory`. After that it answers `Failed`
     /// exactly where the call is to fail or the name is not held, and adds the name to the faults.
+    #[tactic(auto, using(crate::proofs::OneFile::one_file))]
     fn read_all(&mut self, name: &str, most: u64) -> Result<Vec<u8>, ReadFault>
         ensures held { mem_held self.new ≡ mem_held self.old }
         ensures faults { Grows (name.now ∷ []) (mem_faults self.old) (mem_faults self.new) }

@@ -1,4 +1,4 @@
-ghost use Rattle.std.specs.Prelude.{◌≡◌, ◌≤◌, ◌-◌, ◌++◌, ◌↔◌, [], Some, take, length, IsOk, IfOk, OnOk, OnErr, vec_len};
+ghost use Rattle.std.specs.Prelude.{◌≡◌, ◌≤◌, ◌-◌, ◌^◌, ◌++◌, ◌↔◌, [], Some, take, length, IsOk, IfOk, OnOk, OnErr, vec_len};
 ghost use Rattle.std.specs.Vec.{vec_capacity};
 ghost use Rattle.std.specs.Io.KnownBytes.{Appends};
 ghost use Rattle.vc_files.specs.Sink.{AppendsFront, HasCause, Counts};
@@ -19,9 +19,9 @@ pub struct MemSink {
 impl MemSink {
     ghost use Rattle.vc_files.specs.MemSink.{sink_bytes, sink_faults, sink_room};
 
-    /// A sink with room for `most` bytes. The room is taken at once, so no write takes memory.
+    /// A sink with room for `most` bytes, at most 2^30. The room is taken at once, so no write takes memory.
     pub fn new(alloc: Global, most: usize) -> Result<MemSink, AllocError>
-        requires { most ≤ 1073741824 }
+        requires { most ≤ 2 ^ 30 }
         ensures empty { IfOk result (λ s. sink_bytes s ≡ []) }
         ensures room { IfOk result (λ s. sink_room s ≡ most) }
         ensures faults { IfOk result (λ s. sink_faults s ≡ 0) }

@@ -1,8 +1,7 @@
-ghost use Rattle.std.specs.Prelude.{◌≡◌, ◌≤◌, ◌<◌, ◌+◌, ◌∷◌, [], map, ℕ, None, string_bytes, length, IfOk, IsErrOf, OnOk, OnErr};
-ghost use Rattle.std.specs.Io.KnownBytes.{Appends};
+ghost use Rattle.std.specs.Prelude.{◌≡◌, ◌≤◌, ◌<◌, ◌+◌, ◌∷◌, [], ℕ, None, length, IfOk, IsErrOf};
 ghost use Rattle.vc_files.specs.Files.{Bytes, Tells, Shows, Grows, Added};
 ghost use Rattle.vc_files.specs.Reading.{IsUnfailed, Brings, Records};
-ghost use Rattle.vc_files.specs.Sink.{AppendsFront, HasCause, Counts};
+ghost use Rattle.vc_files.specs.Sink.{HasCause, Counts};
 
 use crate::{Files, ReadFault, Sink, WriteFault};
 use std::alloc::{AllocError, Global};
@@ -57,12 +56,14 @@ impl<'r, R: std::rt::Files> Files for RealFiles<'r, R> {
     fn read_all(&mut self, name: &str, most: u64) -> Result<Vec<u8>, ReadFault>
         ensures faults { Grows (name.now ∷ []) (real_faults self.old) (real_faults self.new) }
         ensures read { IfOk result (λ got. Tells None name.now got.items × (length got.items ≤ most)) }
+        ensures failed { IsErrOf result ReadFault.Failed → Added (real_faults self.old) (real_faults self.new) }
         ensures too_long { (taken : ℕ) → IsErrOf result (ReadFault.TooLong taken) → (taken ≡ most + 1)
             × (bytes : Bytes) × Tells None name.now bytes × (most < length bytes) }
         ensures unfailed { real_faults self.new ≡ real_faults self.old → IsUnfailed result }
         ensures told { (bytes : Bytes) → Shows None name.now bytes
             → real_faults self.new ≡ real_faults self.old → Brings bytes most result }
-        ensures failed { IsErrOf result ReadFault.Failed → Added (real_faults self.old) (real_faults self.new) }
+
+        // What each call leaves.
         ensures recorded { Records name.now (real_faults self.old) (real_faults self.new) result }
     {
         let copy = String::from_str(self.alloc, name).map_err(ReadFault::Memory)?;
