@@ -1,4 +1,5 @@
-ghost use Rattle.std.specs.Prelude.{◌≡◌, ◌≤◌, ◌<◌, ◌+◌, ◌∷◌, [], ℕ, None, length, IfOk, IsErrOf};
+ghost use Rattle.std.specs.Prelude.{◌≡◌, ◌≤◌, ◌<◌, ◌+◌, ◌∷◌, [], ℕ, None, length, IfOk, IsErrOf, OnOk};
+ghost use Rattle.std.specs.Io.KnownBytes.{Appends};
 ghost use Rattle.vc_files.specs.Files.{Bytes, Tells, Shows, Grows, Added};
 ghost use Rattle.vc_files.specs.Reading.{IsUnfailed, Brings, Records};
 ghost use Rattle.vc_files.specs.Sink.{HasCause, Counts};
@@ -88,18 +89,19 @@ pub struct RealSink<W> {
 }
 
 impl<W: Write + Drop> RealSink<W> {
-    ghost use Rattle.vc_files.specs.RealSink.{real_sink_faults};
+    ghost use Rattle.vc_files.specs.RealSink.{real_sink_faults, real_sink_target};
 
     /// A sink that writes to `to`, as standard output, and flushes after each piece.
     pub fn new(to: W) -> RealSink<W>
-        ensures { real_sink_faults result ≡ 0 }
+        ensures faults { real_sink_faults result ≡ 0 }
+        ensures target { real_sink_target result ≡ to }
     {
         RealSink { to, faults: 0 }
     }
 }
 
 impl<W: Write + Drop> Sink for RealSink<W> {
-    ghost use Rattle.vc_files.specs.RealSink.{real_sink_faults};
+    ghost use Rattle.vc_files.specs.RealSink.{real_sink_faults, real_sink_target};
 
     ghost written = { λ _. None };
 
@@ -108,6 +110,10 @@ impl<W: Write + Drop> Sink for RealSink<W> {
     /// Writes until all is taken, and flushes. A write that takes nothing is a failure.
     fn write_all(&mut self, bytes: &[u8]) -> Result<(), WriteFault>
         ensures cause { HasCause (real_sink_faults self.old) (real_sink_faults self.new) result }
+
+        // A writer whose contents are known has taken all the bytes at Ok.
+        ensures passed { OnOk result
+            (Appends (W.contents (real_sink_target self.old)) (W.contents (real_sink_target self.new)) bytes.now) }
         ensures counted { Counts (real_sink_faults self.old) (real_sink_faults self.new) result }
     {
         if self.to.write_all(bytes).is_ok() && self.to.flush().is_ok() {
