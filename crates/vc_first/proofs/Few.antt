@@ -13,6 +13,7 @@ use Rattle.vc_label.specs.Sets.{IsOverSets}
 use Rattle.vc_label.specs.declared.alphabet.Alphabet.{Alphabet}
 use Rattle.vc_label.specs.declared.tape_set.TapeSet.{TapeSet}
 use Rattle.vc_label.proofs.Alphabets.{letters_only}
+use Rattle.vc_label.proofs.Order.{total, equal}
 use Rattle.vc_aut.specs.Drafts.{Draft, IsDraft}
 use Rattle.vc_aut.specs.Validity.{IsMove}
 use Rattle.vc_aut.proofs.Order.{once_in_order}
@@ -89,7 +90,7 @@ small_move R alphabet sets n t e h m = go t.label (subst (λ s. IsOverSets s t.l
 pub few_moves : {V : Type 0} (R : WeightSet V) (alphabet : Alphabet) (d : Draft V) → IsDraft R d → IsSmall alphabet d → length d.automaton.transitions ≤ 12800
 few_moves {V} R alphabet d h s =
     let ts = d.automaton.transitions in
-    let n = no_more_than 12800 (map code (map triple ts)) (NoRepeat-map code (map triple ts) (λ d e i j h. code_once d e (small d i) (small e j) h) (once_in_order words_total words_equal ts h.drawn.order)) (λ x i. bound x (In-map_from code x (map triple ts) i)) in
+    let n = no_more_than 12800 (map code (map triple ts)) (NoRepeat-map code (map triple ts) (λ d e i j h. code_once d e (small d i) (small e j) h) (once_in_order total equal ts h.drawn.order)) (λ x i. bound x (In-map_from code x (map triple ts) i)) in
     let e = length_map code (map triple ts) in
     let f = length_map triple ts in
     omega (arith, n, e, f)

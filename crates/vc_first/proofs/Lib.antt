@@ -7,3 +7,5 @@ pub mod Sums
 pub mod Numbers
 pub mod OneSeries
 pub mod Few
+pub mod Refused
+pub mod Kept

@@ -1,15 +1,13 @@
-ghost use Rattle.std.specs.Prelude.{◌≡◌, ℕ, true, IfOk, IsTrue, [], ◌∷◌};
+ghost use Rattle.std.specs.Prelude.{◌≡◌, ℕ, true, IfOk, [], ◌∷◌};
 ghost use Rattle.vc_first.specs.Grammar.{is_plain};
 ghost use Rattle.vc_first.specs.Reading.{is_in};
 ghost use Rattle.vc_label.specs.Alphabets.{has_letter};
-ghost use Rattle.vc_label.specs.Letters.{is_letter};
-ghost use Rattle.vc_label.specs.Sets.{IsOverSets};
 ghost use Rattle.vc_model.specs.Lists.{In};
 
 use std::alloc::{AllocError, Global};
 use std::slice;
 use vc_atoms::{Letter, Letters};
-use vc_label::{Alphabet, LabelFault, LabelSet, Word};
+use vc_label::{Alphabet, LabelFault, LabelSet, Word, alphabets_are_sets};
 
 /// The alphabet of some plain letters.
 pub(crate) fn alphabet_of(letters: &[u8]) -> Alphabet
@@ -24,12 +22,12 @@ pub(crate) fn alphabet_of(letters: &[u8]) -> Alphabet
 }
 
 /// The label of a letter of the alphabet. It refuses for memory alone.
-pub(crate) fn label_of(alloc: Global, letters: Letters, letter: u8) -> Result<Letter, AllocError>
-    requires inside { IsOverSets (⟦<Letters as LabelSet>⟧.sets letters) ((letter ∷ []) ∷ []) }
-    requires letter { IsTrue (is_letter letter) }
+pub(crate) fn label_of(alloc: Global, alphabet: Alphabet, letter: u8) -> Result<Letter, AllocError>
+    requires { has_letter alphabet letter ≡ true }
     ensures { IfOk result (λ l. ⟦<Letters as LabelSet>⟧.parts l ≡ (letter ∷ []) ∷ []) }
 {
-    match letters.label(alloc, Word::one(slice::from_ref(&letter))) {
+    alphabets_are_sets();
+    match Letters::new(alphabet).label(alloc, Word::one(slice::from_ref(&letter))) {
         Ok(label) => Ok(label),
         Err(LabelFault::NotHere) => unreachable!(),
         Err(LabelFault::Memory(e)) => Err(e),

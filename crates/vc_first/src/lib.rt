@@ -3,6 +3,7 @@
 
 mod law;
 mod alphabet;
+mod build;
 mod entries;
 mod line;
 mod reader;
