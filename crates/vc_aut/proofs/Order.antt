@@ -53,7 +53,8 @@ module _ (total : IsTotalOrder word_order) (equal : (v w : Word) → (word_order
         let to : t.to ≡ u.to = ap (λ d. d.2) h in
         rw (from, label, to, nat_cmp-self u.from, nat_cmp-self u.to, (equal u.label u.label).1 refl) refl
 
-    not_after : (t : Transition V) (ts : List (Transition V)) → AllByRecursion (λ u. triple_order t u ≡ Less) ts → In (triple t) (map triple ts) → ⊥
+    -- a transition that comes before others has none of their triples
+    pub not_after : (t : Transition V) (ts : List (Transition V)) → AllByRecursion (λ u. triple_order t u ≡ Less) ts → In (triple t) (map triple ts) → ⊥
     not_after t [] h i = i
     not_after t (u ∷ us) h i =
         elim i [
