@@ -6,3 +6,4 @@ pub mod Refusals
 pub mod Inserted
 pub mod Drafted
 pub mod Added
+pub mod States

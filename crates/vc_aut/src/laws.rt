@@ -1,9 +1,9 @@
-ghost use Rattle.std.specs.Prelude.{◌≡◌, ◌↔◌, ◌⊎◌, ℕ, Bool, List, [], length, map, Some, if◌then◌else◌};
-ghost use Rattle.vc_aut.specs.Drafts.{without_zeros};
+ghost use Rattle.std.specs.Prelude.{◌≡◌, ◌↔◌, ◌⊎◌, ◌<◌, ◌==◌, ℕ, Bool, List, [], length, map, Some, if◌then◌else◌};
+ghost use Rattle.vc_aut.specs.Drafts.{Draft, with_final, with_initial, with_state, without_zeros};
 ghost use Rattle.vc_aut.specs.Order.{AreInOrder};
 ghost use Rattle.vc_aut.specs.Sums.{insert_all, insert_transition, standing};
 ghost use Rattle.vc_aut.specs.Validity.{IsLabelled, IsMove};
-ghost use Rattle.vc_model.specs.Automata.{IsAutomaton, Transition, triple};
+ghost use Rattle.vc_model.specs.Automata.{IsAutomaton, Transition, final_weight, initial_weight, triple};
 ghost use Rattle.vc_model.specs.Gathered.{IsGathered, same_triple, weight_at};
 ghost use Rattle.vc_model.specs.Lists.{In, IsEqualityTest};
 ghost use Rattle.vc_model.specs.WeightSet.{WeightSet, SemiringLaws};
@@ -56,3 +56,22 @@ pub fn drafts_are_sums<V>()
 {
     words_are_ordered();
 }
+
+/// What a weight does that is added at a state: there it is added, and the other states keep
+/// theirs. A state more has zero weights, as each number has that is no state.
+pub fn states_are_added<V>()
+    ensures initial_weights { (R : WeightSet V) (d : Draft V) (s p : ℕ) (w : V)
+        → s < length d.automaton.initial
+        → initial_weight R (with_initial R d s w).automaton p
+        ≡ (if p == s then R.plus (initial_weight R d.automaton p) w
+        else initial_weight R d.automaton p) }
+    ensures final_weights { (R : WeightSet V) (d : Draft V) (s p : ℕ) (w : V)
+        → s < length d.automaton.final
+        → final_weight R (with_final R d s w).automaton p
+        ≡ (if p == s then R.plus (final_weight R d.automaton p) w
+        else final_weight R d.automaton p) }
+    ensures state_initial { (R : WeightSet V) (d : Draft V) (p : ℕ)
+        → initial_weight R (with_state R d).automaton p ≡ initial_weight R d.automaton p }
+    ensures state_final { (R : WeightSet V) (d : Draft V) (p : ℕ)
+        → final_weight R (with_state R d).automaton p ≡ final_weight R d.automaton p }
+{}
