@@ -1,11 +1,11 @@
 -- What transitions come to that are inserted one after the other.
-use Rattle.std.proofs.Common.{◌≡◌, ◌≢◌, ◌∙◌, sym, ap, subst, refl, ℕ, Bool, true, false, List, [], ◌∷◌, map, cond, None, Some, Option, Less, Equal, Greater, inl, inr, All}
+use Rattle.std.proofs.Common.{◌≡◌, ◌∙◌, sym, ap, subst, refl, ℕ, Bool, true, false, List, [], ◌∷◌, map, cond, Some, Less, Equal, Greater, inl, inr}
 use Rattle.std.specs.Prelude.{◌↔◌, ◌⊎◌, not}
 use Rattle.std.specs.List.{filter}
 use Rattle.std.specs.Ordering.{match_ordering, is_eq}
 use Rattle.std.specs.Cmp.{IsTotalOrder}
 use Rattle.std.specs.declared.cmp.Ordering.{Ordering}
-use Rattle.std.proofs.lemmas.List.Elements.{All-weaker, filter_passes}
+use Rattle.std.proofs.lemmas.List.Elements.{filter_passes}
 use Rattle.std.proofs.lemmas.List.Kept.{IsStrictlySortedBy-filter}
 use Rattle.std.proofs.lemmas.Map.Keys.{sorted_head, sorted_tail}
 use Rattle.vc_label.specs.Order.{word_order}
@@ -23,7 +23,7 @@ use Rattle.vc_aut.proofs.Valid.{of_member}
 
 In-triple : {V : Type 0} (t : Transition V) (ts : List (Transition V)) → In t ts → In (triple t) (map triple ts)
 In-triple t [] i = i
-In-triple t (u ∷ us) i = elim i [ | inl e ↦ inl (ap triple e) | inr j ↦ inr (In-triple t us j) ]
+In-triple t (u ∷ us) i = elim i [ inl e ↦ inl (ap triple e) | inr j ↦ inr (In-triple t us j) ]
 
 abbrev made : {V : Type 0} → ℕ × Word × ℕ → V → Transition V
 made d w = record { from = d.0; label = d.1; to = d.2; weight = w }
@@ -35,22 +35,27 @@ module _ (total : IsTotalOrder word_order) (equal : (v w : Word) → (word_order
   stands_by : (u : Transition V) (us : List (Transition V)) (t : Transition V) (w : V) → AreInOrder (u ∷ us) → ((standing us t ≡ Some w) ↔ In (record t { weight = w }) us)
       → (o : Ordering) → triple_order t u ≡ o → (cond (is_eq o) (Some u.weight) (standing us t) ≡ Some w) ↔ In (record t { weight = w }) (u ∷ us)
   stands_by u us t w h k Equal q =
-      let same : triple t ≡ triple u = same_triples total equal t u q in
-      ((λ e. let x : u.weight ≡ w = cc in inl (same_transition t u w same x)),
+      let same : triple t ≡ triple u = same_triples total equal t u q in (
+        (λ e. let x : u.weight ≡ w = cc in inl (same_transition t u w same x)),
         (λ i. elim i [
-            | inl e ↦ ap (λ (x : Transition V). Some x.weight) (sym e)
-            | inr j ↦ absurd (not_after total equal u us (sorted_head triple_order u us h) (subst (λ d. In d (map triple us)) same (In-triple (record t { weight = w }) us j)))
-          ]))
-  stands_by u us t w h k Less q =
-      ((λ e. inr (k.0 e)), (λ i. elim i [
-          | inl e ↦ (let d : triple_order t u ≡ Equal = order_of_same total equal t u (ap triple e) in cc)
-          | inr j ↦ k.1 j
-        ]))
-  stands_by u us t w h k Greater q =
-      ((λ e. inr (k.0 e)), (λ i. elim i [
-          | inl e ↦ (let d : triple_order t u ≡ Equal = order_of_same total equal t u (ap triple e) in cc)
-          | inr j ↦ k.1 j
-        ]))
+          | inl e ↦ ap (λ (x : Transition V). Some x.weight) (sym e)
+          | inr j ↦ absurd (not_after total equal u us (sorted_head triple_order u us h) (subst (λ d. In d (map triple us)) same (In-triple (record t { weight = w }) us j)))
+        ]),
+      )
+  stands_by u us t w h k Less q = (
+    (λ e. inr (k.0 e)),
+    (λ i. elim i [
+      | inl e ↦ (let d : triple_order t u ≡ Equal = order_of_same total equal t u (ap triple e) in cc)
+      | inr j ↦ k.1 j
+    ]),
+  )
+  stands_by u us t w h k Greater q = (
+    (λ e. inr (k.0 e)),
+    (λ i. elim i [
+      | inl e ↦ (let d : triple_order t u ≡ Equal = order_of_same total equal t u (ap triple e) in cc)
+      | inr j ↦ k.1 j
+    ]),
+  )
 
   pub standing-member : (ts : List (Transition V)) (t : Transition V) (w : V) → AreInOrder ts → (standing ts t ≡ Some w) ↔ In (record t { weight = w }) ts
   standing-member [] t w h = ((λ e. cc), (λ i. absurd i))
@@ -62,10 +67,11 @@ module _ (total : IsTotalOrder word_order) (equal : (v w : Word) → (word_order
       → In d (map triple (match_ordering o (t ∷ u ∷ us) (record u { weight = R.plus u.weight t.weight } ∷ us) (u ∷ vs))) ↔ ((d ≡ triple t) ⊎ In d (map triple (u ∷ us)))
   triples_by d u us vs t h Less q = ((λ i. i), (λ i. i))
   triples_by d u us vs t h Equal q =
-      ((λ i. inr i), (λ i. elim i [ | inl e ↦ inl (e ∙ same_triples total equal t u q) | inr j ↦ j ]))
-  triples_by d u us vs t h Greater q =
-      ((λ i. elim i [ | inl e ↦ inr (inl e) | inr j ↦ elim (h.0 j) [ | inl e ↦ inl e | inr k ↦ inr (inr k) ] ]),
-        (λ i. elim i [ | inl e ↦ inr (h.1 (inl e)) | inr j ↦ elim j [ | inl e ↦ inl e | inr k ↦ inr (h.1 (inr k)) ] ]))
+      ((λ i. inr i), (λ i. elim i [ inl e ↦ inl (e ∙ same_triples total equal t u q) | inr j ↦ j ]))
+  triples_by d u us vs t h Greater q = (
+    (λ i. elim i [ inl e ↦ inr (inl e) | inr j ↦ elim (h.0 j) [ inl e ↦ inl e | inr k ↦ inr (inr k) ] ]),
+    (λ i. elim i [ inl e ↦ inr (h.1 (inl e)) | inr j ↦ elim j [ inl e ↦ inl e | inr k ↦ inr (h.1 (inr k)) ] ]),
+  )
 
   pub triples-inserted : (ts : List (Transition V)) (t : Transition V) (d : ℕ × Word × ℕ) → In d (map triple (insert_transition R ts t)) ↔ ((d ≡ triple t) ⊎ In d (map triple ts))
   triples-inserted [] t d = ((λ i. i), (λ i. i))
