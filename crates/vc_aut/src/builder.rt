@@ -138,7 +138,14 @@ impl<L: LabelSet, S: Semiring> Builder<L, S> {
     pub fn finish(self) -> Result<Automaton<L, S>, AllocError>
         ensures { IfOk result (λ a. a ≡ finished S.set S.Value.eq self) }
     {
-        let Builder { alloc, most_states: _, labels, initial_weights, final_weights, transitions } = self;
+        let Builder {
+            alloc,
+            most_states: _,
+            labels,
+            initial_weights,
+            final_weights,
+            transitions,
+        } = self;
         let transitions = moves::finish::<L, S>(alloc, transitions)?;
         Automaton::new(alloc, labels, initial_weights, final_weights, transitions)
     }
