@@ -9,3 +9,5 @@ pub mod OneSeries
 pub mod Few
 pub mod Refused
 pub mod Kept
+pub mod Added
+pub mod Finished

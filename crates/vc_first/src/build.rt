@@ -128,7 +128,7 @@ fn add_final<S: Semiring>(
 }
 
 /// Adds what the lines say, one after the other.
-fn add_lines<S: Semiring>(
+pub(crate) fn add_lines<S: Semiring>(
     alloc: Global,
     builder: &mut Builder<Letters, S>,
     alphabet: Alphabet,
@@ -149,7 +149,7 @@ fn add_lines<S: Semiring>(
 }
 
 /// Adds so many states.
-fn add_states<S: Semiring>(
+pub(crate) fn add_states<S: Semiring>(
     builder: &mut Builder<Letters, S>,
     count: u32,
 ) -> Result<(), MakeFault<S::Value>>

@@ -10,8 +10,7 @@ loop-preserved g c =
     let i = c.loop.invariant in
     let e : c.add_state.new.self ≡ with_state R c.loop.builder = c.in_default.ensures.ok in
     let n : c.args.count - c.loop.counter ≡ suc (c.args.count - (c.loop.counter + 1)) = omega (arith, c.loop-test.true) in
-    let s : c.add_state.new.self.automaton.states ≡ c.loop.builder.automaton.states + 1 = ap (λ d. d.automaton.states) e in
-    (
+    let s : c.add_state.new.self.automaton.states ≡ c.loop.builder.automaton.states + 1 = ap (λ d. d.automaton.states) e in (
       omega (arith, c.loop-test.true),
       ap (with_states R (c.args.count - (c.loop.counter + 1))) e ∙ sym (states_more R (c.args.count - c.loop.counter) (c.args.count - (c.loop.counter + 1)) c.loop.builder n) ∙ i.1,
       omega (arith, s, i.2),
