@@ -1,0 +1,5 @@
+pub mod Pushes
+pub mod Sweeps
+pub mod Zeros
+pub mod Sources
+pub mod Targets

@@ -1,0 +1,4 @@
+//! Coefficients of automata at words.
+#![tactic(auto)]
+
+mod rows;
