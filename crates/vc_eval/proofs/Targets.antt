@@ -2,6 +2,7 @@
 use Rattle.std.proofs.Common.{◌≡◌, ◌≢◌, ℕ, ◌<◌, ◌+◌, ◌==◌, IsTrue, List, [], ◌∷◌, ◌++◌, Bool, true, false, cond, get_or, set, length, map, refl, sym, ap, ap₂, ◌∙◌, inl, inr, subst, zero, suc, arith}
 use Rattle.std.specs.List.{flat_map}
 use Rattle.std.proofs.lemmas.List.{get_or-set_same, get_or-set_other, length-set}
+use Rattle.std.proofs.lemmas.Bool.{eq-eqb}
 use Rattle.std.proofs.lemmas.Bool.Decides.{eqb_tells}
 use Rattle.vc_model.specs.WeightSet.{WeightSet}
 use Rattle.vc_model.specs.Automata.{Transition}
@@ -122,13 +123,35 @@ module _ {V : Type 0} (R : WeightSet V) (g : ℕ → V) (x : ℕ) where
     | inr j ↦ later (letter_of u == x) (moved-In us (moved_once R g x u row) e (λ t k. subst (λ n. t.to < n) (sym (moved_once-length u row)) (w t (inr k))) j)
   ]
     where
+      own : In e (products_steps R (entry R row u.to) ((g u.from, u.weight) ∷ factors_to u.to us))
+          → (t : ℕ) × (t < length row) × In e (products_steps R (entry R row t) (cond (u.to == t) ((g u.from, u.weight) ∷ []) [] ++ factors_to t us))
+      own j = (u.to, w u (inl refl), subst (λ c. In e (products_steps R (entry R row u.to) (cond c ((g u.from, u.weight) ∷ []) [] ++ factors_to u.to us))) (sym (eq-eqb u.to u.to refl)) j)
+
       first : (b : Bool) → In e (cond b (Mul (g u.from) u.weight ∷ Add (entry R row u.to) (R.times (g u.from) u.weight) ∷ []) [])
           → (t : ℕ) × (t < length row) × In e (products_steps R (entry R row t) (cond (u.to == t) (cond b ((g u.from, u.weight) ∷ []) []) [] ++ factors_to t us))
-      first true (inl q) = ?
-      first true (inr (inl q)) = ?
+      first true (inl q) = own (subst (λ s. In s (products_steps R (entry R row u.to) ((g u.from, u.weight) ∷ factors_to u.to us))) (sym q) (cons_Mul R (entry R row u.to) (g u.from) u.weight (factors_to u.to us)))
+      first true (inr (inl q)) = own (subst (λ s. In s (products_steps R (entry R row u.to) ((g u.from, u.weight) ∷ factors_to u.to us))) (sym q) (cons_Add R (entry R row u.to) (g u.from) u.weight (factors_to u.to us)))
       first true (inr (inr j)) = absurd j
       first false j = absurd j
 
       later : (b : Bool) → (t : ℕ) × (t < length (cond b (added u row) row)) × In e (products_steps R (entry R (cond b (added u row) row) t) (factors_to t us))
           → (t : ℕ) × (t < length row) × In e (products_steps R (entry R row t) (cond (u.to == t) (cond b ((g u.from, u.weight) ∷ []) []) [] ++ factors_to t us))
-      later b (t, l, j) = ?
+      later true (t, l, j) =
+          let k : t < length row = subst (λ n. t < n) (length-set row u.to (R.plus (entry R row u.to) (R.times (g u.from) u.weight))) l in
+          elim (eqb_tells u.to t) [
+            | inl q ↦ (
+              t, k,
+              subst (λ c. In e (products_steps R (entry R row t) (cond c ((g u.from, u.weight) ∷ []) [] ++ factors_to t us))) (sym q.0)
+              (cons_rest R (entry R row t) (g u.from) u.weight (factors_to t us) e (subst (λ a. In e (products_steps R a (factors_to t us))) (added_same u row t k q.1) j))
+            )
+            | inr n ↦ (
+              t, k,
+              subst (λ c. In e (products_steps R (entry R row t) (cond c ((g u.from, u.weight) ∷ []) [] ++ factors_to t us))) (sym n.0)
+              (subst (λ a. In e (products_steps R a (factors_to t us))) (added_other u row t n.1) j)
+            )
+          ]
+      later false (t, l, j) = (t, l, idle (u.to == t))
+        where
+          idle : (c : Bool) → In e (products_steps R (entry R row t) (cond c [] [] ++ factors_to t us))
+          idle true = j
+          idle false = j

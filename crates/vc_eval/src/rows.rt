@@ -1,21 +1,47 @@
 ghost use Rattle.std.specs.Prelude.{◌≡◌, ◌<◌, ◌==◌, ℕ, IsTrue, OnOk, IfOk, All, [], ◌∷◌, length, map, replicate, slice_index_or};
 ghost use Rattle.vc_aut.specs.Stored.{transition_of};
-ghost use Rattle.vc_eval.specs.Forward.{by_source, products, products_steps};
+ghost use Rattle.vc_eval.specs.Forward.{by_source, products, forward_steps};
 ghost use Rattle.vc_eval.specs.Moves.{entry, IsLetterMove, moved, move_steps, moved_once, once_steps, ends, in_turn};
-ghost use Rattle.vc_model.specs.Automata.{initial_weight};
+ghost use Rattle.vc_model.specs.Automata.{coefficient, initial_weight};
 ghost use Rattle.vc_model.specs.Letters.{HasLetters, letter_of};
 ghost use Rattle.vc_model.specs.Sums.{sum_onto};
 ghost use Rattle.vc_model.specs.WeightSet.{InRange};
 ghost use Rattle.vc_model.specs.Words.{Word};
-ghost use Rattle.vc_ring.specs.Steps.{outcome};
+ghost use Rattle.vc_ring.specs.Steps.{outcome, IsOutcome};
 ghost use Rattle.vc_ring.specs.declared.faults.Overflow.TheVariants.{Add, Mul};
 
+use std::mem;
 use vc_aut::{Automaton, Transition, automata_are_valid};
 use vc_label::LabelSet;
 use vc_ring::{Overflow, Semiring};
 
+/// The coefficient at a tape of letters. The rows have an entry for each state; what stands in them
+/// does not matter.
+pub(crate) fn forward<L: LabelSet, S: Semiring>(
+    aut: &Automaton<L, S>,
+    tape: &[u8],
+    row: &mut Vec<S::Value>,
+    next: &mut Vec<S::Value>,
+) -> Result<S::Value, Overflow<S::Value>>
+    requires tapes { length aut.now.sets ≡ 1 }
+    requires letters { HasLetters aut.now.automaton }
+    requires row_length { length row.old.items ≡ aut.now.automaton.states }
+    requires next_length { length next.old.items ≡ aut.now.automaton.states }
+    ensures value { IsOutcome S.set (forward_steps S.set aut.now.automaton (tape.now ∷ [])) (coefficient S.set aut.now.automaton (tape.now ∷ [])) result }
+    ensures row_length { length row.new.items ≡ aut.now.automaton.states }
+    ensures next_length { length next.new.items ≡ aut.now.automaton.states }
+{
+    automata_are_valid(aut);
+    start(aut, row);
+    for letter in tape {
+        step(aut, row, *letter, next)?;
+        mem::swap(row, next);
+    }
+    finish(aut, row)
+}
+
 /// Writes the initial weights into the row.
-pub(crate) fn start<L: LabelSet, S: Semiring>(aut: &Automaton<L, S>, row: &mut [S::Value])
+fn start<L: LabelSet, S: Semiring>(aut: &Automaton<L, S>, row: &mut [S::Value])
     requires { length row.old ≡ aut.now.automaton.states }
     ensures entries { (t : ℕ) → t < length row.new → entry S.set row.new t ≡ initial_weight S.set aut.now.automaton t }
     ensures in_range { InRange S.set row.new }
@@ -26,7 +52,7 @@ pub(crate) fn start<L: LabelSet, S: Semiring>(aut: &Automaton<L, S>, row: &mut [
 }
 
 /// Adds to `next` what the transitions with the letter bring from the entries of `row`.
-pub(crate) fn step<L: LabelSet, S: Semiring>(
+fn step<L: LabelSet, S: Semiring>(
     aut: &Automaton<L, S>,
     row: &[S::Value],
     letter: u8,
@@ -53,7 +79,7 @@ pub(crate) fn step<L: LabelSet, S: Semiring>(
 }
 
 /// The sum of the entries of the row times the final weights.
-pub(crate) fn finish<L: LabelSet, S: Semiring>(
+fn finish<L: LabelSet, S: Semiring>(
     aut: &Automaton<L, S>,
     row: &[S::Value],
 ) -> Result<S::Value, Overflow<S::Value>>
