@@ -2,3 +2,5 @@ pub mod Grammar
 pub mod Reading
 pub mod View
 pub mod Views
+pub mod Automata
+pub mod Digits

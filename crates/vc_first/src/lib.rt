@@ -4,7 +4,8 @@
 mod law;
 mod line;
 mod reader;
+mod states;
 
-pub use law::inputs_are_read;
+pub use law::{inputs_are_read, lines_have_one_series};
 pub use line::Line;
 pub use reader::{Input, read_input};

@@ -1,0 +1,14 @@
+//! Weighted automata, which a builder sums up from states and transitions.
+#![tactic(auto)]
+
+mod automaton;
+mod builder;
+mod laws;
+mod moves;
+mod starts;
+mod transition;
+
+pub use automaton::Automaton;
+pub use builder::Builder;
+pub use laws::{automata_are_valid, drafts_are_sums, states_are_added, transitions_are_added};
+pub use transition::Transition;

@@ -1,0 +1,121 @@
+ghost use Rattle.std.specs.Prelude.{◌≡◌, ◌≢◌, ◌↔◌, ◌∷◌, [], map, None, Ok, Err, string_bytes};
+ghost use Rattle.std.specs.Option.{option_map};
+ghost use Rattle.std.specs.Io.KnownBytes.{Appends};
+ghost use Rattle.vc_files.specs.Files.{Bytes, Grows, Added};
+ghost use Rattle.vc_files.specs.Sink.{Rose, AppendsFront};
+ghost use Rattle.vc_top.specs.Answers.{Answer, Allows, AllowsEvalFile, Loads};
+ghost use Rattle.vc_top.specs.Delivery.{Delivers};
+ghost use Rattle.vc_top.specs.Requests.{request};
+ghost use Rattle.vc_top.specs.Seen.{seen};
+ghost use Rattle.vc_top.specs.Views.{loaded_of, answer_of};
+ghost use Rattle.vc_top.specs.Words.{request_of, names_of};
+
+use crate::answer::{EvalFault, evaluation};
+use crate::request::{Request, request_of};
+use crate::status::Status;
+use std::alloc::Global;
+use vc_files::{Files, ReadFault, Sink};
+
+/// The greatest number of bytes of a file.
+const MOST_BYTES: u64 = 16_777_216;
+
+/// The bytes of a file, or the status that refuses them.
+fn load<F: Files>(files: &mut F, name: &str) -> Result<Vec<u8>, Status>
+    ensures held { F.held files.new ≡ F.held files.old }
+    ensures faults { Grows (name.now ∷ []) (F.faults files.old) (F.faults files.new) }
+    ensures loaded { Loads (seen (F.held files.old) (F.faults files.old) (F.faults files.new)) name.now (loaded_of result) }
+{
+    match files.read_all(name, MOST_BYTES) {
+        Ok(bytes) => Ok(bytes),
+        Err(ReadFault::Failed) => Err(Status::ReadFault),
+        Err(ReadFault::TooLong { .. }) => Err(Status::Limit),
+        Err(ReadFault::Memory(_)) => Err(Status::Memory),
+    }
+}
+
+/// The answer to `eval FILE WORD`.
+fn eval_file<F: Files>(
+    alloc: Global,
+    files: &mut F,
+    file: &str,
+    word: &str,
+) -> Result<String, Status>
+    ensures held { F.held files.new ≡ F.held files.old }
+    ensures faults { Grows (file.now ∷ []) (F.faults files.old) (F.faults files.new) }
+    ensures answer { AllowsEvalFile (seen (F.held files.old) (F.faults files.old) (F.faults files.new)) file.now word.now (answer_of result) }
+{
+    let bytes = load(files, file)?;
+    match evaluation(alloc, &bytes, word.as_bytes()) {
+        Ok(text) => Ok(text),
+        Err(EvalFault::Syntax) => Err(Status::Syntax),
+        Err(EvalFault::Memory) => Err(Status::Memory),
+    }
+}
+
+/// The answer to a request.
+fn answer<F: Files>(
+    alloc: Global,
+    asked: Option<Request<'_>>,
+    files: &mut F,
+) -> Result<String, Status>
+    ensures held { F.held files.new ≡ F.held files.old }
+    ensures faults { Grows (names_of (option_map request asked.entry)) (F.faults files.old) (F.faults files.new) }
+    ensures answer { Allows (option_map request asked.entry) (seen (F.held files.old) (F.faults files.old) (F.faults files.new)) (answer_of result) }
+{
+    match asked {
+        None => Err(Status::Usage),
+        Some(Request::EvalFile { file, word }) => eval_file(alloc, files, file, word),
+    }
+}
+
+/// Prints an answer, or nothing for a refusal.
+fn deliver<O: Sink>(answer: &Result<String, Status>, out: &mut O) -> Status
+    ensures { Delivers (answer_of answer.now) result (O.written out.old) (O.written out.new) (O.faults out.old) (O.faults out.new) }
+{
+    match answer {
+        Ok(text) => match out.write_all(text.as_bytes()) {
+            Ok(()) => Status::Done,
+            Err(_) => Status::WriteFault,
+        },
+        Err(status) => *status,
+    }
+}
+
+/// Does what the words ask, and answers the status.
+///
+/// The words are those after the program's name. Files are read from `files`, the answer goes to `out` once it stands
+/// whole, and `err` is kept for the lines of refusals. `eval FILE WORD` prints the coefficient of the file's automaton
+/// at the word, and a line feed (Sakarovitch, Elements of Automata Theory).
+pub fn run<F: Files, O: Sink, E: Sink>(
+    alloc: Global,
+    words: &[String],
+    files: &mut F,
+    out: &mut O,
+    err: &mut E,
+) -> Status
+    // The answer is one that the request allows over what the files tell, and it is printed whole or not at all.
+    ensures answer { (a : Answer) × Allows (request_of (map string_bytes words.now)) (seen (F.held files.old) (F.faults files.old) (F.faults files.new)) a
+        × Delivers a result (O.written out.old) (O.written out.new) (O.faults out.old) (O.faults out.new) }
+
+    // The same, a row each: what is printed, and that a refusal has its cause and prints nothing.
+    ensures printed { result ≡ Status.Done → (text : Bytes) × Allows (request_of (map string_bytes words.now)) (seen (F.held files.old) (F.faults files.old) (F.faults files.new)) (Ok text)
+        × Appends (O.written out.old) (O.written out.new) text }
+    ensures front { result ≡ Status.WriteFault → (text : Bytes) × Allows (request_of (map string_bytes words.now)) (seen (F.held files.old) (F.faults files.old) (F.faults files.new)) (Ok text)
+        × AppendsFront (O.written out.old) (O.written out.new) text }
+    ensures cause { result ≢ Status.Done → result ≢ Status.WriteFault → Allows (request_of (map string_bytes words.now)) (seen (F.held files.old) (F.faults files.old) (F.faults files.new)) (Err result) }
+    ensures nothing { result ≢ Status.Done → result ≢ Status.WriteFault → O.written out.new ≡ O.written out.old }
+
+    // Over every store and every sink.
+    ensures usage { (result ≡ Status.Usage) ↔ (request_of (map string_bytes words.now) ≡ None) }
+    ensures faults { Grows (names_of (request_of (map string_bytes words.now))) (F.faults files.old) (F.faults files.new) }
+    ensures read_fault { result ≡ Status.ReadFault → Added (F.faults files.old) (F.faults files.new) }
+    ensures write_fault { result ≡ Status.WriteFault → Rose (O.faults out.old) (O.faults out.new) }
+    ensures kept { F.held files.new ≡ F.held files.old }
+    ensures err { E.written err.new ≡ E.written err.old }
+    ensures err_faults { E.faults err.new ≡ E.faults err.old }
+{
+    let request = request_of(words);
+    let answer = answer(alloc, request, files);
+    let _ = &*err;
+    deliver(&answer, out)
+}
