@@ -1,4 +1,7 @@
 //! Coefficients of automata at words.
 #![tactic(auto)]
 
+mod evaluator;
 mod rows;
+
+pub use evaluator::Evaluator;
