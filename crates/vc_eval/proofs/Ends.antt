@@ -18,7 +18,7 @@ use Rattle.vc_ring.specs.declared.faults.Overflow.{Overflow}
 use Rattle.vc_eval.specs.Forward.{products, products_steps, by_source, row_steps, end_steps, prefixes, forward_steps}
 use Rattle.vc_eval.specs.Moves.{entry, ends, in_turn, move_steps}
 use Rattle.vc_eval.proofs.Targets.{cons_fit, cons_Mul, cons_Add, cons_rest}
-use Rattle.vc_eval.proofs.Prefixes.{AllFit-flat_map, row-In}
+use Rattle.vc_eval.proofs.LetterSteps.{AllFit-flat_map, row-In}
 use Rattle.vc_eval.proofs.Positions.{prefixes-In, prefixes-In_from}
 
 module _ {V : Type 0} (R : WeightSet V) where

@@ -1,8 +1,9 @@
+pub mod Zeros
 pub mod Pushes
 pub mod Sweeps
-pub mod Zeros
 pub mod Sources
 pub mod Targets
-pub mod Prefixes
+pub mod LetterSteps
 pub mod Positions
 pub mod Ends
+pub mod Letters

@@ -47,9 +47,3 @@ module _ {V : Type 0} (R : WeightSet V) (a : V) (f g : ℕ → V) (s n : ℕ) wh
       let c : V = R.plus a (R.times (f s) (g s)) in
       first h
       ∙ outcome-append_err (fits R) (once (f s) (g s)) (in_turn R c (pairs_from (s + 1))) c (sum_onto R c (products R (pairs_from (s + 1)))) o (sym (ap₂ here e d) ∙ r)
-
--- what is read at a place in a list
-pub read_at : {X : Type 0} (xs : List X) (i : ℕ) (x d : X) → i < length xs → x ≡ get_or xs i x → x ≡ get_or xs i d
-read_at [] i x d h e = absurd (omega arith)
-read_at (y ∷ xs) zero x d h e = e
-read_at (y ∷ xs) (suc i) x d h e = read_at xs i x d (omega arith) e

@@ -1,5 +1,5 @@
 use crate::rows::forward;
-use std::alloc::Global;
+use std::alloc::{AllocError, Global};
 use std::marker::Model;
 use vc_aut::Automaton;
 use vc_label::{LabelSet, Word};
@@ -64,8 +64,12 @@ impl<'p, L: LabelSet, S: Semiring> Evaluator<'p, L, S> {
                 most: MOST_CELLS,
             }));
         }
-        let row = Vec::from_elem(alloc, S::zero(), states).map_err(MakeFault::Memory)?;
-        let next = Vec::from_elem(alloc, S::zero(), states).map_err(MakeFault::Memory)?;
+        let Ok(row) = Vec::from_elem(alloc, S::zero(), states) else {
+            return Err(MakeFault::Memory(AllocError));
+        };
+        let Ok(next) = Vec::from_elem(alloc, S::zero(), states) else {
+            return Err(MakeFault::Memory(AllocError));
+        };
         Ok(Evaluator {
             automaton: aut,
             row,

@@ -2,6 +2,11 @@
 #![tactic(auto)]
 
 mod evaluator;
+mod laws;
 mod rows;
 
 pub use evaluator::Evaluator;
+pub use laws::letters_are_labels;
+
+#[cfg(test)]
+mod tests;

@@ -7,7 +7,7 @@ use Rattle.vc_model.proofs.LetterRows.{row_empty}
 use Rattle.vc_ring.specs.Steps.{AllFit}
 use Rattle.vc_eval.specs.Forward.{by_source, row_steps}
 use Rattle.vc_eval.specs.Moves.{entry, move_steps}
-use Rattle.vc_eval.proofs.Prefixes.{row-entry, row-fits, row-length}
+use Rattle.vc_eval.proofs.LetterSteps.{row-entry, row-fits, row-length}
 use Rattle.vc_eval.proofs.Ends.{from_ok, finished, refused}
 use Rattle.vc_eval.proofs.rows.forward.Goals as goal
 

@@ -1,4 +1,4 @@
--- The positions of a word of one tape, and the rows there.
+-- A row step reads one letter more: its sums are the row of the longer prefix, and its steps are those of that row.
 use Rattle.std.proofs.Common.{◌≡◌, ◌≢◌, ℕ, ◌<◌, ◌≤◌, ◌+◌, ◌==◌, IsTrue, List, [], ◌∷◌, ◌++◌, Bool, true, false, not, cond, eqb, get_or, length, map, take, drop, filter, replicate, refl, sym, ap, ap₂, ◌∙◌, inl, inr, subst, zero, suc, arith, Option, Some, None, append_assoc, length-append}
 use Rattle.std.specs.List.{flat_map}
 use Rattle.std.proofs.lemmas.List.{take_more, take_all, same_from_push, get_or-replicate, length-replicate}
