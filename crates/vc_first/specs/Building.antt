@@ -18,6 +18,10 @@ use Rattle.vc_first.specs.Grammar.{Line, initial_at, final_at, moves}
 abbrev pub letter_sets : Alphabet → List TapeSet
 letter_sets alphabet = record { kind = Letters; alphabet = alphabet } ∷ []
 
+-- one tape, with labels of one letter of some alphabet
+abbrev pub AreLetters : List TapeSet → Type 0
+AreLetters sets = (alphabet : Alphabet) × (sets ≡ letter_sets alphabet)
+
 -- the letters of the line's transitions are in the alphabet
 abbrev pub HasLetters : Alphabet → Line → Type 0
 HasLetters alphabet (initial_at n) = ⊤

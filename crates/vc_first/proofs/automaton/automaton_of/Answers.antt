@@ -5,7 +5,8 @@ use Rattle.vc_first.specs.Automata.{IsAutomatonOf}
 use Rattle.vc_first.specs.Building.{IsSmall, number_in, with_states, with_lines}
 use Rattle.vc_first.specs.Grammar.{Line}
 use Rattle.vc_first.specs.View.{view}
-use Rattle.vc_first.proofs.Added.{IsMarked, marks_counted}
+use Rattle.vc_first.proofs.Added.{IsMarked, marks_counted, has_states}
+use Rattle.vc_first.proofs.Kept.{lines_sets}
 use Rattle.vc_first.proofs.Finished.{all_digits, all_letters, all_numbers, begun_small, begun_states, lines_finished}
 use Rattle.vc_first.proofs.automaton.automaton_of.Goals as goal
 
@@ -40,3 +41,11 @@ returns-in-Ok-clause-ok g c =
     let d = c.in_ok-add_lines.ensures.ok ∙ ap (λ x. with_lines R (number_in named) x lines) (c.in_ok-add_states.ensures.ok ∙ ap (with_states R c.count.result) c.new-builder.ensures) in
     subst (λ x. IsAutomatonOf R lines x.automaton) (sym (c.in-Ok.ensures ∙ ap (finished R g.S.Value.PartialEq.eq) d))
     (lines_finished R g.met.S.Semiring.laws g.S.Value.PartialEq.eq g.met.S.Semiring.same c.args.alphabet.now lines named _ c.count.result c.requires.lines (c.named_digits-named.ensures.size, c.named_digits-named.ensures.marked) c.count.ensures)
+
+pub returns-in-Ok-clause-sets : goal.returns-in-Ok-clause-sets
+returns-in-Ok-clause-sets g c =
+    let R = g.S.Semiring.set in
+    let lines = map view c.args.lines.now in
+    let named = c.named_digits-named.result in
+    let d = c.in_ok-add_lines.ensures.ok ∙ ap (λ x. with_lines R (number_in named) x lines) (c.in_ok-add_states.ensures.ok ∙ ap (with_states R c.count.result) c.new-builder.ensures) in
+    (c.alphabet_of-letters.result, ap (λ x. x.sets) (c.in-Ok.ensures ∙ ap (finished R g.S.Value.PartialEq.eq) d) ∙ lines_sets R (number_in named) (with_states R c.count.result (empty_draft 10 _)) lines ∙ (has_states R c.count.result (empty_draft 10 _)).sets ∙ c.new.ensures)
