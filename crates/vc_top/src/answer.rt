@@ -8,7 +8,7 @@ use vc_atoms::Letters;
 use vc_aut::Automaton;
 use vc_basic::B;
 use vc_eval::{Evaluator, letters_are_labels};
-use vc_first::{automaton_of, inputs_are_read, read_input};
+use vc_first::{automaton_of, read_input};
 use vc_label::Word;
 use vc_ring::{MakeFault, Semiring};
 
@@ -50,7 +50,6 @@ pub(crate) fn evaluation(alloc: Global, file: &[u8], text: &[u8]) -> Result<Stri
     ensures ok { IfOk result (λ printed. Evaluates file.now text.now (string_bytes printed)) }
     ensures syntax { IsErrOf result EvalFault.Syntax → IsRefused file.now text.now }
 {
-    inputs_are_read();
     let input = match read_input(alloc, file, text) {
         Ok(Some(input)) => input,
         Ok(None) => return Err(EvalFault::Syntax),
