@@ -12,3 +12,6 @@ pub use automaton::Automaton;
 pub use builder::Builder;
 pub use laws::{automata_are_valid, drafts_are_sums, states_are_added, transitions_are_added};
 pub use transition::Transition;
+
+#[cfg(test)]
+mod tests;
