@@ -14,7 +14,7 @@ use vc_ring::{Limit, MakeFault, Measure, Overflow, Semiring};
 pub struct Builder<L: LabelSet, S: Semiring> {
     alloc: Global,
     most_states: u64,
-    labels: L,
+    pub(crate) labels: L,
     initial_weights: Vec<S::Value>,
     final_weights: Vec<S::Value>,
     transitions: Moves<L, S>,

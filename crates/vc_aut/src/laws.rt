@@ -1,5 +1,5 @@
 ghost use Rattle.std.specs.Prelude.{◌≡◌, ◌↔◌, ◌⊎◌, ◌<◌, ◌==◌, ℕ, Bool, List, [], length, map, Some, if◌then◌else◌};
-ghost use Rattle.vc_aut.specs.Drafts.{Draft, with_final, with_initial, with_state, without_zeros};
+ghost use Rattle.vc_aut.specs.Drafts.{Draft, IsDraft, with_final, with_initial, with_state, without_zeros};
 ghost use Rattle.vc_aut.specs.Order.{AreInOrder};
 ghost use Rattle.vc_aut.specs.Sums.{insert_all, insert_transition, standing};
 ghost use Rattle.vc_aut.specs.Validity.{IsLabelled, IsMove};
@@ -10,6 +10,7 @@ ghost use Rattle.vc_model.specs.WeightSet.{WeightSet, SemiringLaws};
 ghost use Rattle.vc_model.specs.Words.{Word};
 
 use crate::automaton::Automaton;
+use crate::builder::Builder;
 use vc_label::{LabelSet, words_are_ordered};
 use vc_ring::Semiring;
 
@@ -23,6 +24,14 @@ pub fn automata_are_valid<L: LabelSet, S: Semiring>(aut: &Automaton<L, S>)
 {
     let _ = &aut.labels;
     words_are_ordered();
+}
+
+/// What is true of each builder: its labels are over its sets, its weights are in range, its
+/// transitions are in order, and it has at most so many states and transitions.
+pub fn drafts_are_valid<L: LabelSet, S: Semiring>(builder: &Builder<L, S>)
+    ensures { IsDraft S.set builder.now }
+{
+    let _ = &builder.labels;
 }
 
 /// What a transition does that is inserted: its weight is added at its triple, the triples are the
