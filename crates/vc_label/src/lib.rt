@@ -2,6 +2,7 @@
 #![tactic(auto)]
 
 mod alphabet;
+mod extend;
 mod label_set;
 mod laws;
 mod tape_set;
