@@ -1,0 +1,137 @@
+ghost use Rattle.std.specs.Prelude.{◌≤◌};
+
+use crate::{Status, run};
+use std::alloc::{AllocError, Global};
+use std::test::Fail;
+use vc_files::{MemFile, MemFiles, MemSink};
+
+const CONTAINS_AB: &str =
+    "context = \"lal_char(ab), b\"\n$ -> 0\n0 -> 0 a, b\n0 -> 1 a\n1 -> 2 b\n2 -> 2 a, b\n2 -> $";
+
+const GAPS: &str =
+    "context = \"lal_char(a_Z9), b\"\n$ -> 7\n7 -> 3 a, a, _\n3 -> 7 Z\n3 -> $\n3 -> $\n$ -> 7\n";
+
+fn file(alloc: Global, name: &str, bytes: &str) -> Result<MemFile, AllocError> {
+    Ok(MemFile {
+        name: String::from_str(alloc, name)?,
+        bytes: bytes.as_bytes().to_vec(alloc)?,
+    })
+}
+
+fn held(alloc: Global, failing: Vec<u64>) -> Result<MemFiles, AllocError> {
+    let mut files = Vec::new(alloc);
+    for (name, bytes) in [
+        ("contains_ab", CONTAINS_AB),
+        ("gaps", GAPS),
+        ("no_states", "context = \"lal_char(a), b\""),
+        (
+            "no_letters",
+            "context = \"lal_char(), b\"\n$ -> 0\n0 -> $\n",
+        ),
+        (
+            "no_entries",
+            "context = \"lal_char(ab), b\"\n$ -> 0\n0 -> 0 a, b\n0 -> 1\n",
+        ),
+        ("cut_off", "context = \"lal_char(ab), b\"\n$ -> 0\n0 -> "),
+        ("other_weights", "context = \"lal_char(ab), z\"\n$ -> 0\n"),
+        ("weight", "context = \"lal_char(ab), b\"\n$ -> 0 <1>\n"),
+        (
+            "foreign_letter",
+            "context = \"lal_char(ab), b\"\n0 -> 1 c\n",
+        ),
+        ("blank_line", "context = \"lal_char(ab), b\"\n\n$ -> 0\n"),
+        ("empty", ""),
+    ] {
+        files.push(file(alloc, name, bytes)?)?;
+    }
+    Ok(MemFiles::new(alloc, files, failing))
+}
+
+fn answer(
+    alloc: Global,
+    words: &[&str],
+    files: &mut MemFiles,
+    room: usize,
+) -> Result<(Status, MemSink), AllocError>
+    requires { room ≤ 1024 }
+{
+    let mut out = MemSink::new(alloc, room)?;
+    let mut err = MemSink::new(alloc, 64)?;
+    let mut all = Vec::new(alloc);
+    for word in words {
+        all.push(String::from_str(alloc, word)?)?;
+    }
+    let status = run(alloc, &all, files, &mut out, &mut err);
+    Ok((status, out))
+}
+
+#[test]
+fn words_are_evaluated(rt: HostRuntime) -> Result<(), Fail> {
+    let alloc = rt.alloc();
+    for (name, word, code, printed) in [
+        ("contains_ab", "aab", 0u8, "1\n"),
+        ("contains_ab", "ba", 0, "0\n"),
+        ("contains_ab", "\\e", 0, "0\n"),
+        ("contains_ab", "ac", 5, ""),
+        ("contains_ab", "a||", 5, ""),
+        ("contains_ab", "", 5, ""),
+        ("gaps", "a", 0, "1\n"),
+        ("gaps", "_Z_", 0, "1\n"),
+        ("gaps", "aZ", 0, "0\n"),
+        ("gaps", "9", 0, "0\n"),
+        ("no_states", "\\e", 0, "0\n"),
+        ("no_letters", "\\e", 0, "1\n"),
+        ("no_entries", "a", 5, ""),
+        ("cut_off", "a", 5, ""),
+        ("other_weights", "a", 5, ""),
+        ("weight", "a", 5, ""),
+        ("foreign_letter", "a", 5, ""),
+        ("blank_line", "a", 5, ""),
+        ("empty", "a", 5, ""),
+        ("not_held", "a", 3, ""),
+        ("-", "a", 3, ""),
+        ("contains_ab", "-ab", 2, ""),
+        ("-contains_ab", "ab", 2, ""),
+    ] {
+        let mut files = held(alloc, Vec::new(alloc))?;
+        let (status, out) = answer(alloc, &["eval", name, word], &mut files, 16)?;
+        assert_eq!(rt; status.code(), code, "{name} {word}");
+        assert_eq!(rt; out.written(), printed.as_bytes(), "{name} {word}");
+    }
+    Ok(())
+}
+
+#[test]
+fn other_words_and_faults_are_refused(rt: HostRuntime) -> Result<(), Fail> {
+    let alloc = rt.alloc();
+    let mut files = held(alloc, vec![in alloc; 0u64]?)?;
+    let (status, _) = answer(alloc, &[], &mut files, 16)?;
+    assert_eq!(rt; status, Status::Usage);
+    let (status, _) = answer(alloc, &["cat", "contains_ab"], &mut files, 16)?;
+    assert_eq!(rt; status, Status::Usage);
+    let (status, _) = answer(alloc, &["eval", "contains_ab", "ab"], &mut files, 16)?;
+    assert_eq!(rt; status, Status::ReadFault);
+    let (status, out) = answer(alloc, &["eval", "contains_ab", "ab"], &mut files, 0)?;
+    assert_eq!(rt; status, Status::WriteFault);
+    assert_eq!(rt; out.written(), "".as_bytes());
+    let (status, out) = answer(alloc, &["eval", "contains_ab", "ab"], &mut files, 1)?;
+    assert_eq!(rt; status, Status::WriteFault);
+    assert_eq!(rt; out.written(), "1".as_bytes());
+    Ok(())
+}
+
+#[test]
+fn files_past_the_limit_are_refused(rt: HostRuntime) -> Result<(), Fail> {
+    let alloc = rt.alloc();
+    for (length, code) in [(16_777_216usize, 5u8), (16_777_217, 10)] {
+        let mut files = Vec::new(alloc);
+        files.push(MemFile {
+            name: String::from_str(alloc, "feeds")?,
+            bytes: Vec::from_elem(alloc, b'\n', length)?,
+        })?;
+        let mut files = MemFiles::new(alloc, files, Vec::new(alloc));
+        let (status, _) = answer(alloc, &["eval", "feeds", "a"], &mut files, 16)?;
+        assert_eq!(rt; status.code(), code, "{length}");
+    }
+    Ok(())
+}
