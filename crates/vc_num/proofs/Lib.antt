@@ -1,0 +1,2 @@
+pub mod Divisibility
+pub mod Whole
