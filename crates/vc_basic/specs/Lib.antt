@@ -9,3 +9,6 @@ pub mod Tropical
 pub mod TropicalLaws
 pub mod WholeTexts
 pub mod TropicalTexts
+pub mod Splits
+pub mod TropicalSplits
+pub mod WholeSplits

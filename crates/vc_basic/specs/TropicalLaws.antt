@@ -38,7 +38,7 @@ total-one : (a : NminValue) → total a (Finite 0) ≡ a
 total-one Infinite = refl
 total-one (Finite n) = ap Finite (omega arith)
 
-total-infinite : (a : NminValue) → total a Infinite ≡ Infinite
+pub total-infinite : (a : NminValue) → total a Infinite ≡ Infinite
 total-infinite Infinite = refl
 total-infinite (Finite n) = refl
 
@@ -70,7 +70,7 @@ tropical_laws = record {
   star_is = λ a h. sym (tropical_absorbs (total a (Finite 0)));
 }
 
-lesser_held : (a b : NminValue) → IsTrue (is_held a) → IsTrue (is_held b) → IsTrue (is_held (lesser a b))
+pub lesser_held : (a b : NminValue) → IsTrue (is_held a) → IsTrue (is_held b) → IsTrue (is_held (lesser a b))
 lesser_held Infinite b p q = q
 lesser_held (Finite m) Infinite p q = p
 lesser_held (Finite m) (Finite n) p q = grind arith
