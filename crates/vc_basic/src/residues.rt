@@ -10,7 +10,7 @@ use std::alloc::AllocError;
 use vc_ring::{Field, NumberFault, Overflow, Semiring, Split, StarFault};
 
 /// The field of two elements: the numbers 0 and 1 modulo 2. Every step fits, and zero alone has a
-/// star.
+/// star. A weight's text is `0` or `1`, and a row splits into one and itself.
 #[derive(Clone, Copy, Debug, PartialEq, Eq)]
 pub struct F2;
 

@@ -12,7 +12,8 @@ use vc_ring::{NumberFault, Overflow, Semiring, Split, StarFault};
 
 /// The natural numbers up to 2^128 - 1, and infinity: sums are the lesser of two, and products are
 /// additions, the tropical semiring. A product past the greatest number does not fit, and every star
-/// is one.
+/// is one. A weight's text is one or more digits, or `oo` for infinity; it is written without leading
+/// zeros. A row splits into its least entry and what is left of each entry without it.
 #[derive(Clone, Copy, Debug, PartialEq, Eq)]
 pub struct Nmin;
 

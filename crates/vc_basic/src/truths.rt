@@ -8,7 +8,8 @@ use crate::steps::{read_bit, write_bit};
 use std::alloc::AllocError;
 use vc_ring::{NumberFault, Overflow, Semiring, Split, StarFault};
 
-/// The truth values: sums by or, products by and. Every step fits and every star is one.
+/// The truth values: sums by or, products by and. Every step fits and every star is one. A weight's
+/// text is `0` or `1`, and a row splits into one and itself.
 #[derive(Clone, Copy, Debug, PartialEq, Eq)]
 pub struct B;
 

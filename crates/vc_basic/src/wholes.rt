@@ -18,7 +18,9 @@ use vc_num::{DecimalFault, checked_add, checked_mul, gcd, read_decimal};
 use vc_ring::{NumberFault, Overflow, Semiring, Split, StarFault};
 
 /// The whole numbers of magnitude at most 2^127 - 1. Sums and products past it do not fit, and zero
-/// alone has a star.
+/// alone has a star. A weight's text is an optional `-` and one or more digits; it is written without
+/// leading zeros. A row splits into the greatest common divisor of its entries, with the sign of the
+/// first that is not zero, and the quotients.
 #[derive(Clone, Copy, Debug, PartialEq, Eq)]
 pub struct Z;
 
