@@ -1,5 +1,5 @@
 -- The factor of a row, as it is computed.
-use Rattle.std.proofs.Common.{◌≡◌, ℕ, ◌+◌, ◌*◌, ◌<◌, ◌^◌, List, arith, ap, sym, subst, ◌∙◌, ℤ, pos, ◌*ℤ◌, unsigned_abs, to_z, of_z, FitsSigned}
+use Rattle.std.proofs.Common.{◌≡◌, ℕ, ◌<◌, ◌^◌, List, ap, sym, subst, ◌∙◌, ℤ, pos, ◌*ℤ◌, unsigned_abs, to_z, of_z, FitsSigned}
 use Rattle.std.proofs.lemmas.Int.{to_z-of_z, to_z_pos, fits_signed_from_abs}
 use mir.Syntax.{w128}
 use Rattle.vc_model.specs.WeightSet.{InRange}

@@ -1,5 +1,5 @@
 -- Loops over a row.
-use Rattle.std.proofs.Common.{◌≡◌, ℕ, ◌+◌, ◌<◌, ◌≤◌, suc, List, [], ◌∷◌, length, drop, get_or, arith, ap, sym, ◌∙◌, ℤ, pos, cond, true, false, Bool, unsigned_abs, int_div, map, take, set, ◌++◌, to_z, of_z, FitsSigned}
+use Rattle.std.proofs.Common.{◌≡◌, ℕ, ◌+◌, ◌<◌, ◌≤◌, suc, List, ◌∷◌, length, drop, get_or, arith, ap, sym, ◌∙◌, ℤ, pos, cond, true, false, Bool, unsigned_abs, int_div, map, take, set, ◌++◌, to_z, of_z, FitsSigned}
 use Rattle.std.proofs.lemmas.Int.{to_z-of_z}
 use Rattle.std.proofs.lemmas.List.{drop_all, get_or_default}
 use Rattle.std.proofs.lemmas.List.Edits.{map_over_more}

@@ -1,5 +1,5 @@
 -- The laws of the tropical semiring as weights.
-use Rattle.std.specs.Prelude.{◌≡◌, ◌+◌, ◌^◌, min, nat_lt, Bool, true, IsTrue, refl}
+use Rattle.std.specs.Prelude.{◌≡◌, IsTrue, refl}
 use Rattle.std.proofs.Common.{arith, ap, sym}
 use Rattle.vc_model.specs.WeightSet.{SemiringLaws, RangeLaws, Absorbs}
 use Rattle.vc_basic.specs.Tropical.{lesser, total, is_held, tropical}

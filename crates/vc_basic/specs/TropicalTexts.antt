@@ -1,6 +1,6 @@
 -- The texts of the tropical semiring spell its elements.
-use Rattle.std.specs.Prelude.{◌≡◌, ℕ, zero, suc, ◌<◌, ◌≤◌, ◌+◌, ◌^◌, Bool, true, false, cond, ◌==◌, ◌&&◌, ◌||◌, IsTrue, List, [], ◌∷◌, Option, None, Some, nat_lt, refl}
-use Rattle.std.proofs.Common.{arith, ap, sym, ◌∙◌}
+use Rattle.std.specs.Prelude.{◌≡◌, ℕ, ◌<◌, ◌^◌, Bool, true, false, cond, ◌==◌, ◌&&◌, ◌||◌, IsTrue, List, [], ◌∷◌, None, Some, nat_lt, refl}
+use Rattle.std.proofs.Common.{arith}
 use Rattle.std.proofs.lemmas.Bool.Decides.{nat_tests}
 use Rattle.std.proofs.lemmas.List.Elements.{All-cons, All-nil}
 use Rattle.std.specs.Char.{is_ascii_digit}
@@ -11,7 +11,6 @@ use Rattle.std.specs.Str.{all_ascii_digits}
 use Rattle.vc_ring.specs.Texts.{TextLaws, IsWeightByte}
 use Rattle.vc_num.specs.Decimals.{is_numeral, number_of_digits}
 use Rattle.vc_num.proofs.Printed.{is_numeral-decimal, number_of_digits-decimal, All-decimal}
-use Rattle.vc_basic.specs.Texts.{spelled_natural, natural_fits}
 use Rattle.vc_basic.specs.Tropical.{tropical, is_held, is_infinity, spelled_tropical, tropical_fits, tropical_text}
 use Rattle.vc_basic.specs.WholeTexts.{digit_byte}
 use Rattle.vc_basic.specs.declared.tropical.NminValue.{NminValue}

@@ -1,8 +1,8 @@
 -- The laws of the truth values as weights.
-use Rattle.std.specs.Prelude.{◌≡◌, ℕ, ◌<◌, Bool, true, false, ◌&&◌, ◌||◌, List, [], ◌∷◌, length, slice_index_or, Some, IsTrue, All, refl, ◌↔◌}
-use Rattle.std.proofs.Common.{arith, zero, suc}
+use Rattle.std.specs.Prelude.{◌≡◌, ℕ, Bool, true, false, ◌&&◌, ◌||◌, [], ◌∷◌, Some, All, refl}
+use Rattle.std.proofs.Common.{arith}
 use Rattle.std.proofs.lemmas.Grind.{common_steps}
-use Rattle.vc_model.specs.WeightSet.{WeightSet, SemiringLaws, RangeLaws, Absorbs}
+use Rattle.vc_model.specs.WeightSet.{SemiringLaws, RangeLaws, Absorbs}
 use Rattle.vc_ring.specs.Texts.{TextLaws, IsWeightByte}
 use Rattle.vc_basic.specs.Truths.{truths, spelled_bit, bit_text}
 

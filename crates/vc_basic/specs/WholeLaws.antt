@@ -1,11 +1,10 @@
 -- The laws of the whole numbers as weights.
-use Rattle.std.specs.Prelude.{◌≡◌, ℕ, zero, suc, true, false, IsTrue, refl, ℤ, pos, negsuc, ◌+ℤ◌, ◌*ℤ◌}
+use Rattle.std.specs.Prelude.{◌≡◌, false, IsTrue, refl, ℤ, pos, ◌+ℤ◌, ◌*ℤ◌}
 use Rattle.std.specs.Ordering.{int_eq}
-use Rattle.std.proofs.Common.{arith, ap, sym}
+use Rattle.std.proofs.Common.{arith}
 use Rattle.std.proofs.Math.IntN.{*ℤ_comm, +ℤ_idl, zero-*ℤ}
 use Rattle.std.proofs.lemmas.Int.{ints}
 use Rattle.vc_model.specs.WeightSet.{SemiringLaws, RangeLaws, Absorbs}
-use Rattle.vc_num.specs.Range.{in_range}
 use Rattle.vc_num.proofs.Whole.{*ℤ_assoc, *ℤ-+ℤ}
 use Rattle.vc_basic.specs.Wholes.{wholes}
 

@@ -1,5 +1,5 @@
 -- A row of whole numbers splits into its greatest common divisor, with a sign, and the quotients.
-use Rattle.std.specs.Prelude.{◌≡◌, ◌≢◌, IsTrue, ℕ, zero, suc, ◌<◌, ◌≤◌, ◌/◌, ◌^◌, nat_lt, ◌+◌, ◌*◌, ◌%◌, min, Bool, true, false, cond, if◌then◌else◌, List, [], ◌∷◌, map, refl, ℤ, pos, negsuc, neg_ℤ, ◌+ℤ◌, ◌*ℤ◌, unsigned_abs, int_div, int_rem}
+use Rattle.std.specs.Prelude.{◌≡◌, IsTrue, ℕ, zero, suc, ◌<◌, ◌≤◌, ◌/◌, ◌^◌, nat_lt, ◌*◌, min, Bool, true, false, cond, if◌then◌else◌, List, [], ◌∷◌, map, refl, ℤ, pos, negsuc, neg_ℤ, ◌+ℤ◌, ◌*ℤ◌, unsigned_abs, int_div, int_rem}
 use Rattle.std.specs.Int.{int_signum, ◌∣◌}
 use Rattle.std.specs.Ordering.{int_eq}
 use Rattle.std.proofs.Common.{arith, ap, sym, subst, ◌∙◌}

@@ -2,7 +2,7 @@
 use Rattle.std.proofs.Common.{◌≡◌, ℕ, zero, suc, ◌+◌, ◌*◌, ◌/◌, ◌%◌, ◌≤◌, ◌<◌, refl, sym, ap, ◌∙◌, arith, subst}
 use Rattle.std.specs.Int.{IsGcd, ◌∣◌}
 use Rattle.std.proofs.lemmas.Nat.Gcd.{IsGcd-from_zero, IsGcd-from_mod, IsGcd-swap, same_from_IsGcd}
-use native.Mathlib.Nat.{div-add-mod, mod-lt, div-mul_cancel, dvd_trans, dvd_antisymm, mul-dvd-mul_right, pos_of_dvd_of_pos, eq_of_mul-eq-mul_right, eq-one_of_dvd-one, dvd-add_iff_right, dvd-mul_right, dvd-mul_right_of_dvd, dvd_refl, one-mul}
+use native.Mathlib.Nat.{div-add-mod, mod-lt, div-mul_cancel, dvd_trans, dvd_antisymm, mul-dvd-mul_right, pos_of_dvd_of_pos, eq_of_mul-eq-mul_right, eq-one_of_dvd-one, dvd-add_iff_right, dvd-mul_right, dvd-mul_right_of_dvd, one-mul}
 use Rattle.vc_num.specs.Divisors.{gcd_upto, gcd_of}
 
 upto-is : (n a b : ℕ) → b ≤ n → IsGcd a b (gcd_upto n a b)

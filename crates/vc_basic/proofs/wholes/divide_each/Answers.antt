@@ -1,4 +1,4 @@
-use Rattle.std.proofs.Common.{rules, FitsSigned, get_or, pos, int_div, ℤ, to_z, of_z}
+use Rattle.std.proofs.Common.{rules, FitsSigned, get_or, pos, int_div, to_z, of_z}
 use mir.Syntax.{w128}
 use Rattle.vc_basic.proofs.Rows.{written_over, quotient_read}
 use Rattle.vc_basic.proofs.wholes.divide_each.Goals as goal

@@ -1,4 +1,4 @@
-use Rattle.std.proofs.Common.{arith, rules, get_or, ◌<◌, length, ◌≡◌, pos, FitsSigned}
+use Rattle.std.proofs.Common.{rules, get_or, pos, FitsSigned}
 use mir.Syntax.{w128}
 use Rattle.vc_num.proofs.Divisibility.{gcd_of-zero_left}
 use Rattle.vc_basic.specs.WholeSplits.{common_divisor}

@@ -1,4 +1,4 @@
-use Rattle.std.proofs.Common.{rules, arith, ◌≡◌, ◌<◌, ℕ, ◌^◌, ℤ, pos, ◌<ℤ◌, FitsSigned, to_z, of_z, int_div, nat_lt, IsTrue}
+use Rattle.std.proofs.Common.{arith, ◌≡◌, ◌<◌, ℕ, ◌^◌, ℤ, pos, ◌<ℤ◌, FitsSigned, to_z, of_z, int_div, nat_lt, IsTrue}
 use Rattle.std.proofs.lemmas.Int.{ints, to_z-of_z, to_z_pos, quot_fits}
 use mir.Syntax.{w128}
 use Rattle.vc_num.proofs.checked.divide.Goals as goal

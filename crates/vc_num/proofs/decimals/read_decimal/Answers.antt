@@ -1,4 +1,4 @@
-use Rattle.std.proofs.Common.{arith, rules, ◌≡◌, length, ◌<◌}
+use Rattle.std.proofs.Common.{arith, length, ◌<◌}
 use Rattle.std.proofs.lemmas.Bool.Decides.{nat_tests}
 use Rattle.vc_num.proofs.Digits.{digits_alone, refused_empty, refused_others, read_digits}
 use Rattle.vc_num.proofs.decimals.read_decimal.Goals as goal

@@ -1,4 +1,4 @@
-use Rattle.std.proofs.Common.{rules, FitsSigned, ◌<◌, unsigned_abs, sym, subst, ◌∙◌, to_z, of_z}
+use Rattle.std.proofs.Common.{rules, FitsSigned, ◌<◌, unsigned_abs, sym, subst, ◌∙◌}
 use Rattle.std.proofs.lemmas.Int.{to_z-of_z}
 use mir.Syntax.{w128}
 use Rattle.vc_basic.specs.WholeSplits.{factor-positive}
