@@ -1,12 +1,15 @@
-ghost use Rattle.std.specs.Prelude.{true, refl};
+ghost use Rattle.std.specs.Prelude.{true, refl, []};
 ghost use Rattle.std.proofs.Common.{arith};
 ghost use Rattle.vc_basic.specs.Truths.{truths, spelled_bit, bit_text};
+ghost use Rattle.vc_basic.specs.Splits.{one_splits, one_split_ranges};
 ghost use Rattle.vc_basic.specs.TruthLaws.{truth_laws, truth_ranges, truth_absorbs, truth_texts};
 
+use crate::steps::{read_bit, write_bit};
 use std::alloc::AllocError;
-use vc_ring::{NumberFault, Overflow, Semiring, StarFault};
+use vc_ring::{NumberFault, Overflow, Semiring, Split, StarFault};
 
-/// The truth values: sums by or, products by and. Every step fits and every star is one.
+/// The truth values: sums by or, products by and. Every step fits and every star is one. A weight's
+/// text is `0` or `1`, and a row splits into one and itself.
 #[derive(Clone, Copy, Debug, PartialEq, Eq)]
 pub struct B;
 
@@ -56,14 +59,26 @@ impl Semiring for B {
     }
 
     fn read(text: &[u8]) -> Result<bool, NumberFault> {
-        match text {
-            [b'0'] => Ok(false),
-            [b'1'] => Ok(true),
-            _ => Err(NumberFault::Bad),
-        }
+        read_bit!(text)
     }
 
     fn write(value: bool, into: &mut String) -> Result<(), AllocError> {
-        into.push(if value { '1' } else { '0' })
+        write_bit!(value, into)
+    }
+}
+
+impl Split for B {
+    ghost factor = { λ _. true };
+
+    ghost normal = { λ row. row };
+
+    ghost split_steps = { λ _. [] };
+
+    ghost split_laws = { one_splits truth_laws };
+
+    ghost split_ranges = { one_split_ranges truth_ranges };
+
+    fn split(_row: &mut [bool]) -> Result<bool, Overflow<bool>> {
+        Ok(true)
     }
 }
