@@ -37,7 +37,7 @@ impl<'p, L: LabelSet, S: Semiring> Model for Evaluator<'p, L, S> {
 }
 
 impl<'p, L: LabelSet, S: Semiring> Evaluator<'p, L, S> {
-    ghost use Rattle.std.specs.Prelude.{◌≡◌, IfOk, length};
+    ghost use Rattle.std.specs.Prelude.{◌≡◌, IfOk, IsTrue, length};
     ghost use Rattle.vc_aut.specs.Refusals.{IsAnswer};
     ghost use Rattle.vc_eval.specs.Cells.{cells_refusal};
     ghost use Rattle.vc_eval.specs.Forward.{forward_steps};
@@ -83,6 +83,7 @@ impl<'p, L: LabelSet, S: Semiring> Evaluator<'p, L, S> {
     pub fn eval(&mut self, word: Word<'_>) -> Result<S::Value, Overflow<S::Value>>
         requires { length (word_of word) ≡ 1 }
         ensures automaton { self.new ≡ self.old }
+        ensures in_range { IfOk result (λ v. IsTrue (S.set.in_range v)) }
         ensures value { IsOutcome S.set (forward_steps S.set self.old.automaton (word_of word.entry)) (coefficient S.set self.old.automaton (word_of word.entry)) result }
     {
         forward(self.automaton, word.tape(0), &mut self.row, &mut self.next)

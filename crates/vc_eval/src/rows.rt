@@ -27,6 +27,7 @@ pub(crate) fn forward<L: LabelSet, S: Semiring>(
     requires row_length { length row.old.items ≡ aut.now.automaton.states }
     requires next_length { length next.old.items ≡ aut.now.automaton.states }
     ensures value { IsOutcome S.set (forward_steps S.set aut.now.automaton (tape.now ∷ [])) (coefficient S.set aut.now.automaton (tape.now ∷ [])) result }
+    ensures in_range { IfOk result (λ v. IsTrue (S.set.in_range v)) }
     ensures row_length { length row.new.items ≡ aut.now.automaton.states }
     ensures next_length { length next.new.items ≡ aut.now.automaton.states }
 {
@@ -84,7 +85,8 @@ fn finish<L: LabelSet, S: Semiring>(
 ) -> Result<S::Value, Overflow<S::Value>>
     requires row_length { length row.now ≡ aut.now.automaton.states }
     requires row_in { InRange S.set row.now }
-    ensures { result ≡ outcome S.set (in_turn S.set S.set.zero (ends S.set aut.now.automaton row.now)) (sum_onto S.set S.set.zero (products S.set (ends S.set aut.now.automaton row.now))) }
+    ensures in_range { IfOk result (λ v. IsTrue (S.set.in_range v)) }
+    ensures value { result ≡ outcome S.set (in_turn S.set S.set.zero (ends S.set aut.now.automaton row.now)) (sum_onto S.set S.set.zero (products S.set (ends S.set aut.now.automaton row.now))) }
 {
     let mut total = S::zero();
     for s in 0..aut.states() {

@@ -6,8 +6,8 @@ use Rattle.vc_eval.specs.Moves.{entry}
 use Rattle.vc_eval.proofs.Sweeps.{sweep_ok, sweep_err}
 use Rattle.vc_eval.proofs.rows.finish.Goals as goal
 
-pub returns-in_err-total : goal.returns-in_err-total
-returns-in_err-total g c =
+pub returns-in_err-total-clause-value : goal.returns-in_err-total-clause-value
+returns-in_err-total-clause-value g c =
     let R = g.S.Semiring.set in
     let A = c.args.aut.now.automaton in
     let row = c.args.row.now in

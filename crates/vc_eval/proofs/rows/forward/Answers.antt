@@ -73,4 +73,4 @@ returns-clause-value g c =
     finished g.met.S.Semiring.laws A G c.requires.letters tape c.deref-2.result.now
     (λ t l. ap (λ r. entry R r t) c.deref-2.ensures.value ∙ c.loop-letter.invariant.entries t l ∙ ap (λ a. row R A (a ∷ []) t) all)
     (λ j l. c.loop-letter.invariant.fit j (omega arith))
-    c.finish.result c.finish.ensures
+    c.finish.result c.finish.ensures.value
