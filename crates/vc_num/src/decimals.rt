@@ -1,7 +1,8 @@
-ghost use Rattle.std.specs.Prelude.{◌≡◌, ◌+◌, ◌*◌, ◌<◌, ◌^◌, nat_lt, if◌then◌else◌};
+ghost use Rattle.std.specs.Prelude.{◌≡◌, ◌+◌, ◌*◌, ◌<◌, ◌^◌, IsTrue, nat_lt, if◌then◌else◌};
 ghost use Rattle.std.specs.Char.{is_ascii_digit};
 ghost use Rattle.std.specs.List.{prefix_len};
-ghost use Rattle.vc_num.specs.Decimals.{decimal_of};
+ghost use Rattle.std.specs.Str.{all_ascii_digits};
+ghost use Rattle.vc_num.specs.Decimals.{decimal_of, number_of_digits};
 
 use thiserror::Error;
 
@@ -24,14 +25,7 @@ pub fn read_decimal(text: &[u8]) -> Result<u128, DecimalFault>
     if text.is_empty() || front < text.len() {
         return Err(DecimalFault::NotDigits { at: front });
     }
-    let mut number = 0;
-    for byte in text {
-        number = match followed(number, *byte - b'0') {
-            Some(longer) => longer,
-            None => return Err(DecimalFault::Overflow),
-        };
-    }
-    Ok(number)
+    number_in(text).ok_or(DecimalFault::Overflow)
 }
 
 // How many digits stand before the first byte that is none.
@@ -46,4 +40,16 @@ fn followed(number: u128, digit: u8) -> Option<u128>
     ensures { result ≡ (if nat_lt (10 * number + digit) (2 ^ 128) then Some (10 * number + digit) else None) }
 {
     number.checked_mul(10)?.checked_add(u128::from(digit))
+}
+
+// The number that digits write, where it is at most 2^128 - 1.
+fn number_in(digits: &[u8]) -> Option<u128>
+    requires { IsTrue (all_ascii_digits digits.now) }
+    ensures { result ≡ (if nat_lt (number_of_digits digits.now) (2 ^ 128) then Some (number_of_digits digits.now) else None) }
+{
+    let mut number = 0;
+    for byte in digits {
+        number = followed(number, *byte - b'0')?;
+    }
+    Some(number)
 }

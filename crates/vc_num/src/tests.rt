@@ -18,8 +18,14 @@ fn decimal_texts(rt: HostRuntime) -> Result<(), Fail> {
         ("", Err(DecimalFault::NotDigits { at: 0 })),
         ("1a", Err(DecimalFault::NotDigits { at: 1 })),
         ("340282366920938463463374607431768211455", Ok(u128::MAX)),
-        ("340282366920938463463374607431768211456", Err(DecimalFault::Overflow)),
-        ("999999999999999999999999999999999999999999x", Err(DecimalFault::NotDigits { at: 42 })),
+        (
+            "340282366920938463463374607431768211456",
+            Err(DecimalFault::Overflow),
+        ),
+        (
+            "999999999999999999999999999999999999999999x",
+            Err(DecimalFault::NotDigits { at: 42 }),
+        ),
     ] {
         assert_eq!(rt; read_decimal(text.as_bytes()), number, "{text}");
     }
