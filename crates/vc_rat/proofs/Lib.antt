@@ -1,1 +1,5 @@
-
+pub mod Crossed
+pub mod Division
+pub mod Options
+pub mod Parted
+pub mod Steps

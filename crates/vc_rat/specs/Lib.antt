@@ -5,4 +5,5 @@ pub mod Whole
 pub mod Stands
 pub mod RationalLaws
 pub mod Sums
+pub mod Products
 pub mod RationalRanges

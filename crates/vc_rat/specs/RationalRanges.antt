@@ -9,7 +9,7 @@ use Rattle.vc_num.specs.Range.{in_range}
 use Rattle.vc_num.proofs.Divisibility.{gcd_of-is, gcd_of-from}
 use Rattle.vc_model.specs.WeightSet.{RangeLaws}
 use Rattle.vc_rat.specs.Reduced.{positive-max, magnitude-div}
-use Rattle.vc_rat.specs.Rationals.{reduced, plus, times, zero, one, star, holds, parts_fit, fits_plus, denominator, positive, rationals}
+use Rattle.vc_rat.specs.Rationals.{reduced, plus, times, zero, one, star, holds, tops_fit, parts_fit, fits_plus, denominator, positive, rationals}
 use Rattle.vc_rat.specs.Stands.{stands-reduced}
 use Rattle.vc_rat.specs.Sums.{sum-same, part-positive}
 use Rattle.vc_rat.specs.RationalLaws.{times-one, times-zero, times-comm}
@@ -44,9 +44,9 @@ plus-in x y f =
     let g = gcd_of b d in
     let n = x.top *ℤ pos (d / g) +ℤ y.top *ℤ pos (b / g) in
     let p = part-positive b d g (positive x) (positive y) refl in
-    let second = and-second (in_range (x.top *ℤ pos (d / g))) _ f in
-    let third = and-second (in_range (y.top *ℤ pos (b / g))) _ second in
-    let made = reduced-holds n ((b / g) * d) p (and-first (in_range n) _ third) (and-second (in_range n) _ third) in
+    let tops = and-first (tops_fit x.top (d / g) y.top (b / g)) (in_range (pos (b / g * d))) f in
+    let later = and-second (in_range (x.top *ℤ pos (d / g))) (in_range (y.top *ℤ pos (b / g)) && in_range n) tops in
+    let made = reduced-holds n ((b / g) * d) p (and-second (in_range (y.top *ℤ pos (b / g))) (in_range n) later) (and-second (tops_fit x.top (d / g) y.top (b / g)) (in_range (pos (b / g * d))) f) in
     subst (λ s. IsTrue (holds s)) (sum-same x y (reduced n ((b / g) * d) p) g refl (stands-reduced n ((b / g) * d) p)) made
 
 max-in : (m : ℕ) → IsTrue (nat_lt m (2 ^ 127)) → IsTrue (nat_lt (max 1 m) (2 ^ 127))
@@ -67,7 +67,7 @@ beside-zero t b h k =
     let in2 = subst (λ z. IsTrue (in_range z)) (sym second) refl in
     let in3 = subst (λ z. IsTrue (in_range z)) (sym third) h in
     let in4 = subst (λ n. IsTrue (in_range (pos n))) (sym fourth) k in
-    and-both (in_range (t *ℤ pos 1)) _ in1 (and-both (in_range (pos 0 *ℤ pos b)) _ in2 (and-both (in_range (t *ℤ pos 1 +ℤ pos 0 *ℤ pos b)) (in_range (pos (b * 1))) in3 in4))
+    and-both (tops_fit t 1 (pos 0) b) (in_range (pos (b * 1))) (and-both (in_range (t *ℤ pos 1)) (in_range (pos 0 *ℤ pos b) && in_range (t *ℤ pos 1 +ℤ pos 0 *ℤ pos b)) in1 (and-both (in_range (pos 0 *ℤ pos b)) (in_range (t *ℤ pos 1 +ℤ pos 0 *ℤ pos b)) in2 in3)) in4
 
 behind-zero : (t : ℤ) (b : ℕ) → IsTrue (in_range t) → IsTrue (in_range (pos b)) → IsTrue (parts_fit (pos 0) 1 t b b)
 behind-zero t b h k =
@@ -79,7 +79,7 @@ behind-zero t b h k =
     let in2 = subst (λ z. IsTrue (in_range z)) (sym second) h in
     let in3 = subst (λ z. IsTrue (in_range z)) (sym third) h in
     let in4 = subst (λ n. IsTrue (in_range (pos n))) (sym fourth) k in
-    and-both (in_range (pos 0 *ℤ pos b)) _ in1 (and-both (in_range (t *ℤ pos 1)) _ in2 (and-both (in_range (pos 0 *ℤ pos b +ℤ t *ℤ pos 1)) (in_range (pos (1 * b))) in3 in4))
+    and-both (tops_fit (pos 0) b t 1) (in_range (pos (1 * b))) (and-both (in_range (pos 0 *ℤ pos b)) (in_range (t *ℤ pos 1) && in_range (pos 0 *ℤ pos b +ℤ t *ℤ pos 1)) in1 (and-both (in_range (t *ℤ pos 1)) (in_range (pos 0 *ℤ pos b +ℤ t *ℤ pos 1)) in2 in3)) in4
 
 magnitude-in : (z : ℤ) → IsTrue (in_range z) → IsTrue (in_range (pos (unsigned_abs z)))
 magnitude-in z h = h

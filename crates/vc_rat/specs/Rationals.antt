@@ -38,9 +38,13 @@ star x = let d = unsigned_abs (x.bottom -ℤ x.top) in reduced x.bottom (max 1 d
 abbrev pub holds : Fraction → Bool
 holds x = in_range x.top && in_range x.bottom
 
--- the steps of a·d + c·b and b·whole
+-- a·d, c·b and their sum
+abbrev pub tops_fit : ℤ → ℕ → ℤ → ℕ → Bool
+tops_fit a d c b = in_range (a *ℤ pos d) && (in_range (c *ℤ pos b) && in_range (a *ℤ pos d +ℤ c *ℤ pos b))
+
+-- these, and b·whole
 abbrev pub parts_fit : ℤ → ℕ → ℤ → ℕ → ℕ → Bool
-parts_fit a b c d whole = in_range (a *ℤ pos d) && (in_range (c *ℤ pos b) && (in_range (a *ℤ pos d +ℤ c *ℤ pos b) && in_range (pos (b * whole))))
+parts_fit a b c d whole = tops_fit a d c b && in_range (pos (b * whole))
 
 -- the steps of a sum of a/b and c/d that share g, the greatest common divisor of b and d: a·(d/g), c·(b/g), their sum, and (b/g)·d
 abbrev pub fits_plus : Fraction → Fraction → Bool

@@ -3,10 +3,10 @@ use Rattle.std.specs.Prelude.{◌≡◌, ℕ, zero, suc, ◌<◌, ◌+◌, ◌*�
 use Rattle.std.proofs.Common.{refl, sym, ap, ◌∙◌, arith, subst}
 use Rattle.std.proofs.lemmas.Int.{ints}
 use Rattle.std.proofs.Math.IntN.{pos-*ℤ-pos, negsuc-*ℤ-pos, zero-*ℤ}
-use Rattle.std.specs.Int.{IsGcd, ◌∣◌}
-use native.Mathlib.Nat.{div-mul_cancel, one-dvd, dvd-mul_right, mul-dvd-mul_right, dvd_of_mul-dvd-mul_right, one-mul, pos_of_dvd_of_pos}
+use Rattle.std.specs.Int.{◌∣◌}
+use native.Mathlib.Nat.{div-mul_cancel, dvd-mul_right, pos_of_dvd_of_pos}
 use Rattle.vc_num.specs.Divisors.{gcd_of}
-use Rattle.vc_num.proofs.Divisibility.{gcd_of-is, gcd_of-from}
+use Rattle.vc_num.proofs.Divisibility.{gcd_of-is, gcd_of-positive, gcd_of-quotients, quotients-across}
 use Rattle.vc_rat.specs.Lowest.{IsLowest}
 
 pub positive-mul : (a b : ℕ) → 0 < a → 0 < b → 0 < a * b
@@ -33,23 +33,6 @@ zero-lowest = (positive-pos 1 (omega arith), refl)
 pub one-lowest : IsLowest (pos 1) (pos 1)
 one-lowest = (positive-pos 1 (omega arith), refl)
 
--- the greatest common divisor of a positive number is positive
-pub gcd_of-positive : (a d : ℕ) → 0 < d → 0 < gcd_of a d
-gcd_of-positive a d p = let h = gcd_of-is a d in pos_of_dvd_of_pos h.1 p
-
--- what is left after division by the greatest common divisor has none
-pub quotients-gcd : (a d g : ℕ) → 0 < g → IsGcd a d g → gcd_of (a / g) (d / g) ≡ 1
-quotients-gcd a d g p h =
-    let left : a / g * g ≡ a = div-mul_cancel g h.0 in
-    let right : d / g * g ≡ d = div-mul_cancel g h.1 in
-    let common : (k : ℕ) → k ∣ a / g → k ∣ d / g → k ∣ 1 =
-    λ k u v.
-    let ka : k * g ∣ a = subst (λ x. k * g ∣ x) left (mul-dvd-mul_right k u g) in
-    let kd : k * g ∣ d = subst (λ x. k * g ∣ x) right (mul-dvd-mul_right k v g) in
-    let kg : k * g ∣ 1 * g = subst (λ x. k * g ∣ x) (sym (one-mul g)) (h.2 (k * g) ka kd) in
-    dvd_of_mul-dvd-mul_right k p kg in
-    sym (gcd_of-from (a / g) (d / g) 1 (one-dvd (a / g), one-dvd (d / g), common))
-
 abs-neg : (k : ℕ) → unsigned_abs (neg_ℤ (pos k)) ≡ k
 abs-neg zero = refl
 abs-neg (suc k) = refl
@@ -65,27 +48,18 @@ pub reduced-lowest : (n : ℤ) (d : ℕ) → 0 < d → IsLowest (int_div n (pos 
 reduced-lowest n d p =
     let g = gcd_of (unsigned_abs n) d in
     let h = gcd_of-is (unsigned_abs n) d in
-    (positive-pos (d / g) (positive-div d g p h.1), ap (λ x. gcd_of x (d / g)) (magnitude-div n g) ∙ quotients-gcd (unsigned_abs n) d g (gcd_of-positive (unsigned_abs n) d p) h)
+    (positive-pos (d / g) (positive-div d g p h.1), ap (λ x. gcd_of x (d / g)) (magnitude-div n g) ∙ gcd_of-quotients (unsigned_abs n) d (gcd_of-positive (unsigned_abs n) d p))
 
 neg-mul : (k d : ℕ) → neg_ℤ (pos k) *ℤ pos d ≡ neg_ℤ (pos (k * d))
 neg-mul zero d = let e : 0 ≡ zero * d = omega arith in zero-*ℤ (pos d) ∙ ap (λ x. neg_ℤ (pos x)) e
 neg-mul (suc k) d = negsuc-*ℤ-pos k d
 
-swap : (q e g : ℕ) → q * (e * g) ≡ (q * g) * e
-swap q e g = omega arith
-
-across : (a d g : ℕ) → g ∣ a → g ∣ d → a / g * d ≡ a * (d / g)
-across a d g h i =
-    let left : a / g * g ≡ a = div-mul_cancel g h in
-    let right : d / g * g ≡ d = div-mul_cancel g i in
-    ap (λ x. a / g * x) (sym right) ∙ swap (a / g) (d / g) g ∙ ap (λ x. x * (d / g)) left
-
 -- dividing top and bottom by a common divisor keeps the number
 pub quotient-same : (n : ℤ) (d g : ℕ) → g ∣ unsigned_abs n → g ∣ d → int_div n (pos g) *ℤ pos d ≡ n *ℤ pos (d / g)
 quotient-same (pos a) d g h i =
-    pos-*ℤ-pos (a / g) d ∙ ap pos (across a d g h i) ∙ sym (pos-*ℤ-pos a (d / g))
+    pos-*ℤ-pos (a / g) d ∙ ap pos (quotients-across a d g h i) ∙ sym (pos-*ℤ-pos a (d / g))
 quotient-same (negsuc a) d g h i =
-    neg-mul (suc a / g) d ∙ ap (λ x. neg_ℤ (pos x)) (across (suc a) d g h i) ∙ sym (negsuc-*ℤ-pos a (d / g))
+    neg-mul (suc a / g) d ∙ ap (λ x. neg_ℤ (pos x)) (quotients-across (suc a) d g h i) ∙ sym (negsuc-*ℤ-pos a (d / g))
 
 pub reduced-same : (n : ℤ) (d : ℕ) → int_div n (pos (gcd_of (unsigned_abs n) d)) *ℤ pos d ≡ n *ℤ pos (d / gcd_of (unsigned_abs n) d)
 reduced-same n d = let h = gcd_of-is (unsigned_abs n) d in quotient-same n d (gcd_of (unsigned_abs n) d) h.0 h.1

@@ -1,13 +1,13 @@
 -- What it means that a fraction is n/d, and that no other fraction is.
 use Rattle.std.specs.Prelude.{◌≡◌, ℕ, ◌<◌, ◌*◌, ◌/◌, ℤ, pos, ◌+ℤ◌, ◌*ℤ◌, unsigned_abs}
-use Rattle.std.specs.Int.{IsGcd, ◌∣◌}
+use Rattle.std.specs.Int.{◌∣◌}
 use Rattle.std.proofs.Common.{refl, sym, ap, ◌∙◌, arith, subst}
 use Rattle.std.proofs.lemmas.Int.{unsigned_abs-mul}
-use Rattle.std.proofs.lemmas.Nat.Gcd.{IsGcd-swap, dvd_antisymm}
+use Rattle.std.proofs.lemmas.Nat.Gcd.{dvd_antisymm}
 use native.Mathlib.Nat.{dvd-mul_left}
 use Rattle.std.proofs.Props.{props}
 use Rattle.vc_num.specs.Divisors.{gcd_of}
-use Rattle.vc_num.proofs.Divisibility.{gcd_of-is, gcd_of-from, gauss}
+use Rattle.vc_num.proofs.Divisibility.{gcd_of-comm, gauss}
 use Rattle.vc_num.proofs.Whole.{*ℤ_cancel}
 use Rattle.vc_model.proofs.Rearranged.{semiring}
 use Rattle.vc_rat.specs.Lowest.{IsLowest}
@@ -23,26 +23,25 @@ Stands x n d = x.top *ℤ pos d ≡ n *ℤ pos (denominator x)
 pub stands-reduced : (n : ℤ) (d : ℕ) (p : 0 < d) → Stands (reduced n d p) n d
 stands-reduced n d p = reduced-same n d
 
-lowest_prop : (t b : ℤ) → IsProp (IsLowest t b)
+-- there is one proof that a fraction is in lowest terms
+pub lowest_prop : (t b : ℤ) → IsProp (IsLowest t b)
 lowest_prop t b = hlevel props
 
-abbrev made : (t b : ℤ) → IsLowest t b → Fraction
+abbrev pub made : (t b : ℤ) → IsLowest t b → Fraction
 made t b l = record { top = t; bottom = b; lowest = l }
 
-same_parts : (t t' b b' : ℤ) (l : IsLowest t b) (l' : IsLowest t' b') → t ≡ t' → b ≡ b' → made t b l ≡ made t' b' l'
+-- fractions with the same parts are the same
+pub same_parts : (t t' b b' : ℤ) (l : IsLowest t b) (l' : IsLowest t' b') → t ≡ t' → b ≡ b' → made t b l ≡ made t' b' l'
 same_parts t t' b b' l l' et eb =
     let at_bottom : (m : IsLowest t b) → made t b l ≡ made t b m = λ m. ap (made t b) (lowest_prop t b l m) in
     let at_top : (m : IsLowest t' b) → made t b l ≡ made t' b m = subst (λ x. (m : IsLowest x b) → made t b l ≡ made x b m) et at_bottom in
     subst (λ y. (m : IsLowest t' y) → made t b l ≡ made t' y m) eb at_top l'
 
-pub coprime-swap : (a b : ℕ) → gcd_of a b ≡ 1 → gcd_of b a ≡ 1
-coprime-swap a b e = sym (gcd_of-from b a (gcd_of a b) (IsGcd-swap a b _ (gcd_of-is a b))) ∙ e
-
 bottom-dvd : (x y : Fraction) → x.top *ℤ pos (denominator y) ≡ y.top *ℤ pos (denominator x) → denominator x ∣ denominator y
 bottom-dvd x y e =
     let sizes : unsigned_abs x.top * denominator y ≡ unsigned_abs y.top * denominator x =
     sym (unsigned_abs-mul x.top (pos (denominator y))) ∙ ap unsigned_abs e ∙ unsigned_abs-mul y.top (pos (denominator x)) in
-    gauss (denominator x) (unsigned_abs x.top) (denominator y) (coprime-swap (unsigned_abs x.top) (denominator x) x.lowest.1) (subst (λ k. denominator x ∣ k) (sym sizes) (dvd-mul_left (denominator x) (unsigned_abs y.top)))
+    gauss (denominator x) (unsigned_abs x.top) (denominator y) (gcd_of-comm (denominator x) (unsigned_abs x.top) ∙ x.lowest.1) (subst (λ k. denominator x ∣ k) (sym sizes) (dvd-mul_left (denominator x) (unsigned_abs y.top)))
 
 -- the same number is the same fraction
 pub same_from-cross : (x y : Fraction) → x.top *ℤ pos (denominator y) ≡ y.top *ℤ pos (denominator x) → x ≡ y

@@ -2,7 +2,7 @@
 #![tactic(auto)]
 
 mod fraction;
-mod laws;
+mod products;
+mod sums;
 
 pub use fraction::Fraction;
-pub use laws::trial;
