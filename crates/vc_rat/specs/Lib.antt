@@ -7,3 +7,5 @@ pub mod RationalLaws
 pub mod Sums
 pub mod Products
 pub mod RationalRanges
+pub mod Texts
+pub mod TextLaws

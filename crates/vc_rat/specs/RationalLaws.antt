@@ -1,8 +1,8 @@
 -- The laws of the rational numbers.
-use Rattle.std.specs.Prelude.{◌≡◌, ◌≢◌, ℕ, ◌<◌, ◌*◌, max, ℤ, pos, ◌+ℤ◌, ◌-ℤ◌, ◌*ℤ◌, ◌<ℤ◌, unsigned_abs, nat_lt, IsTrue}
+use Rattle.std.specs.Prelude.{◌≡◌, ◌≢◌, ℕ, ◌<◌, ◌*◌, max, ℤ, pos, ◌+ℤ◌, ◌-ℤ◌, ◌*ℤ◌, ◌<ℤ◌, unsigned_abs, nat_lt, IsTrue, false, ◌↔◌}
 use Rattle.std.proofs.Common.{refl, sym, ap, ◌∙◌, arith, subst}
 use Rattle.std.proofs.lemmas.Int.{ints}
-use Rattle.vc_model.specs.WeightSet.{WeightSet, SemiringLaws}
+use Rattle.vc_model.specs.WeightSet.{WeightSet, SemiringLaws, Absorbs}
 use Rattle.vc_model.proofs.Rearranged.{semiring}
 use Rattle.vc_rat.specs.Reduced.{positive-mul, positive-max, magnitude-is}
 use Rattle.vc_rat.specs.Rationals.{reduced, plus, times, zero, one, star, denominator, positive, rationals}
@@ -126,3 +126,6 @@ rational_laws = record {
   star_zero = refl;
   star_is = star-is;
 }
+
+pub rationals_do_not_absorb : IsTrue false ↔ Absorbs rationals
+rationals_do_not_absorb = (λ h. absurd (cc h), λ h. let tops : pos 2 ≡ pos 1 = ap (λ (x : Fraction). x.top) (h one) in absurd (cc tops))

@@ -14,6 +14,9 @@ positive-mul zero b p q = elim p [ ]
 positive-mul (suc a) zero p q = elim q [ ]
 positive-mul (suc a) (suc b) p q = omega arith
 
+pub positive-suc : (n : ℕ) → 0 < suc n
+positive-suc n = omega arith
+
 pub positive-max : (a : ℕ) → 0 < max 1 a
 positive-max a = omega arith
 

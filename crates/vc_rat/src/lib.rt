@@ -3,6 +3,9 @@
 
 mod fraction;
 mod products;
+mod rationals;
 mod sums;
+mod texts;
 
 pub use fraction::Fraction;
+pub use rationals::Q;
