@@ -4,3 +4,4 @@ pub mod Options
 pub mod Parted
 pub mod Readings
 pub mod Steps
+pub mod Stars

@@ -9,3 +9,4 @@ pub mod Products
 pub mod RationalRanges
 pub mod Texts
 pub mod TextLaws
+pub mod Equality

@@ -1,5 +1,5 @@
 ghost use Rattle.std.specs.Prelude.{false};
-ghost use Rattle.std.proofs.Common.{rules};
+ghost use Rattle.vc_rat.specs.Equality.{equal_where_same};
 ghost use Rattle.vc_rat.specs.Rationals.{rationals};
 ghost use Rattle.vc_rat.specs.RationalLaws.{rational_laws, rationals_do_not_absorb};
 ghost use Rattle.vc_rat.specs.RationalRanges.{rational_ranges};
@@ -41,7 +41,7 @@ impl Semiring for Q {
 
     ghost ranges = { rational_ranges };
 
-    ghost same = { λ a b. Prim.search rules };
+    ghost same = { equal_where_same };
 
     ghost absorbs = { rationals_do_not_absorb };
 
