@@ -1,7 +1,9 @@
 pub mod Crossed
 pub mod Division
+pub mod Inverses
 pub mod Options
 pub mod Parted
 pub mod Readings
-pub mod Steps
+pub mod Splitting
 pub mod Stars
+pub mod Steps

@@ -10,3 +10,6 @@ pub mod RationalRanges
 pub mod Texts
 pub mod TextLaws
 pub mod Equality
+pub mod Fields
+pub mod Rows
+pub mod Splits

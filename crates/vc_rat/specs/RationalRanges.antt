@@ -49,7 +49,7 @@ plus-in x y f =
     let made = reduced-holds n ((b / g) * d) p (and-second (in_range (y.top *ℤ pos (b / g))) (in_range n) later) (and-second (tops_fit x.top (d / g) y.top (b / g)) (in_range (pos (b / g * d))) f) in
     subst (λ s. IsTrue (holds s)) (sum-same x y (reduced n ((b / g) * d) p) g refl (stands-reduced n ((b / g) * d) p)) made
 
-max-in : (m : ℕ) → IsTrue (nat_lt m (2 ^ 127)) → IsTrue (nat_lt (max 1 m) (2 ^ 127))
+pub max-in : (m : ℕ) → IsTrue (nat_lt m (2 ^ 127)) → IsTrue (nat_lt (max 1 m) (2 ^ 127))
 max-in m h = grind arith
 
 star-in : (x : Fraction) → IsTrue (holds x) → IsTrue (in_range (x.bottom -ℤ x.top)) → IsTrue (holds (star x))

@@ -1,9 +1,11 @@
 //! The rational numbers as weights.
 #![tactic(auto)]
 
+mod field;
 mod fraction;
 mod products;
 mod rationals;
+mod splits;
 mod sums;
 mod texts;
 
