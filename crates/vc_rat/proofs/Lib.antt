@@ -1,6 +1,7 @@
 pub mod Crossed
 pub mod Division
 pub mod Inverses
+pub mod Multiplying
 pub mod Options
 pub mod Parted
 pub mod Readings

@@ -15,6 +15,7 @@ own-number x = grind (arith, ints)
 
 pub equal_where_same : (x y : Fraction) → IsTrue (int_eq x.top y.top && int_eq x.bottom y.bottom) ↔ (x ≡ y)
 equal_where_same x y =
-    let tests : Fraction → Bool = λ z. int_eq x.top z.top && int_eq x.bottom z.bottom in
-    ((λ h. same_parts x.top y.top x.bottom y.bottom x.lowest y.lowest (same-number x.top y.top (and-first (int_eq x.top y.top) (int_eq x.bottom y.bottom) h)) (same-number x.bottom y.bottom (and-second (int_eq x.top y.top) (int_eq x.bottom y.bottom) h))),
-     (λ e. subst (λ z. IsTrue (tests z)) e (and-both (int_eq x.top x.top) (int_eq x.bottom x.bottom) (own-number x.top) (own-number x.bottom))))
+    let tests : Fraction → Bool = λ z. int_eq x.top z.top && int_eq x.bottom z.bottom in (
+      (λ h. same_parts x.top y.top x.bottom y.bottom x.lowest y.lowest (same-number x.top y.top (and-first (int_eq x.top y.top) (int_eq x.bottom y.bottom) h)) (same-number x.bottom y.bottom (and-second (int_eq x.top y.top) (int_eq x.bottom y.bottom) h))),
+      (λ e. subst (λ z. IsTrue (tests z)) e (and-both (int_eq x.top x.top) (int_eq x.bottom x.bottom) (own-number x.top) (own-number x.bottom))),
+    )

@@ -110,7 +110,7 @@ star-is x h =
     let right = stands-plus one (times x (star x)) (pos 1) (x.top *ℤ x.bottom) 1 (denominator x * d) refl product in
     let same = star-poly x.top x.bottom (pos d) (star-difference x.top x.bottom x.lowest.0 h) in
     stands-same (star x) (plus one (times x (star x))) x.bottom (pos 1 *ℤ pos (denominator x * d) +ℤ (x.top *ℤ x.bottom) *ℤ pos 1) d (1 * (denominator x * d)) p (positive-mul 1 (denominator x * d) (omega arith) bd) left right
-      (subst (λ b. x.bottom *ℤ (pos 1 *ℤ (b *ℤ pos d)) ≡ (pos 1 *ℤ (b *ℤ pos d) +ℤ (x.top *ℤ x.bottom) *ℤ pos 1) *ℤ pos d) (magnitude-is x.bottom x.lowest.0) same)
+    (subst (λ b. x.bottom *ℤ (pos 1 *ℤ (b *ℤ pos d)) ≡ (pos 1 *ℤ (b *ℤ pos d) +ℤ (x.top *ℤ x.bottom) *ℤ pos 1) *ℤ pos d) (magnitude-is x.bottom x.lowest.0) same)
 
 pub rational_laws : SemiringLaws rationals
 rational_laws = record {

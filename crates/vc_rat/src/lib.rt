@@ -11,3 +11,6 @@ mod texts;
 
 pub use fraction::Fraction;
 pub use rationals::Q;
+
+#[cfg(test)]
+mod tests;

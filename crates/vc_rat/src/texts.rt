@@ -29,7 +29,10 @@ fn slash(text: &[u8]) -> Option<usize>
 }
 
 // The quotient of two numbers that were read.
-fn quotient(top: Result<i128, NumberFault>, bottom: Result<u128, NumberFault>) -> Result<Fraction, NumberFault>
+fn quotient(
+    top: Result<i128, NumberFault>,
+    bottom: Result<u128, NumberFault>,
+) -> Result<Fraction, NumberFault>
     requires top_in { IfOk top (λ n. IsTrue (in_range n)) }
     requires bottom_in { IfOk bottom (λ d. IsTrue (in_range (pos d))) }
     ensures { result ≡ quotient_read top bottom }
