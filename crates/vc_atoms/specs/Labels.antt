@@ -1,13 +1,12 @@
 -- The laws of labels of one part.
-use Rattle.std.proofs.Common.{◌≡◌, ℕ, zero, suc, ◌≤◌, ◌<◌, Bool, true, List, [], ◌∷◌, length, refl, ap, drop, take, IsTrue, nat_eq, nat_cmp, Less, Equal, Greater, arith}
-use Rattle.std.specs.Prelude.{◌↔◌, ◌&&◌}
+use Rattle.std.proofs.Common.{◌≡◌, ℕ, ◌≤◌, true, [], ◌∷◌, length, refl, ap, IsTrue, nat_eq, nat_cmp, Less, Equal, Greater, arith}
+use Rattle.std.specs.Prelude.{◌↔◌}
 use Rattle.std.specs.Cmp.Lexicographic.{slice_cmp, pointwise, bytes_decides}
 use Rattle.std.specs.Ordering.{ordering_then}
 use Rattle.std.specs.declared.cmp.Ordering.{Ordering}
 use Rattle.std.proofs.lemmas.Grind.{common_steps}
 use Rattle.vc_label.specs.Letters.{is_letter, are_letters, is_of_letters}
 use Rattle.vc_label.specs.Order.{word_order}
-use Rattle.vc_label.specs.Sets.{IsSingleWord}
 use Rattle.vc_model.specs.Words.{Word, Tape}
 
 -- the word of one tape

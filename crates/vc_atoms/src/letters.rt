@@ -12,6 +12,30 @@ pub struct Letter {
     ghost letter: { IsTrue (is_letter code) },
 }
 
+impl Letter {
+    ghost use Rattle.std.specs.Prelude.{◌≡◌, ◌∷◌, [], IsTrue};
+    ghost use Rattle.vc_label.specs.Letters.{is_letter};
+
+    pub(crate) fn new(code: u8) -> Letter
+        requires { IsTrue (is_letter code) }
+        ensures { result.code ≡ code }
+    {
+        Letter { code }
+    }
+
+    pub(crate) fn code(self) -> u8
+        ensures { result ≡ self.code }
+    {
+        self.code
+    }
+
+    pub(crate) fn as_slice(&self) -> &[u8]
+        ensures { result.now ≡ self.now.code ∷ [] }
+    {
+        slice::from_ref(&self.code)
+    }
+}
+
 /// The label set `lal`: the letters of an alphabet.
 #[derive(Clone, Copy, Debug)]
 pub struct Letters {
@@ -22,7 +46,6 @@ impl Letters {
     ghost use Rattle.std.specs.Prelude.{◌≡◌, ◌∷◌, []};
     ghost use Rattle.vc_label.specs.declared.tape_set.TapeKind.TheVariants.{Letters as LettersKind};
     ghost use Rattle.vc_label.specs.declared.tape_set.TapeSet.{TapeSet};
-    ghost use Rattle.vc_atoms.specs.Labels.{IsOneLetter};
 
     /// The letters of the alphabet.
     pub fn new(alphabet: Alphabet) -> Letters
@@ -30,11 +53,6 @@ impl Letters {
     {
         Letters { alphabet }
     }
-
-    /// A law: each label has one part, which is one letter.
-    pub fn have_one_letter()
-        ensures { (l : Letter) → IsOneLetter (⟦<Letters as LabelSet>⟧.parts l) }
-    {}
 }
 
 impl LabelSet for Letters {
@@ -83,7 +101,7 @@ impl LabelSet for Letters {
     }
 
     fn part(label: &Letter, _tape: usize) -> &[u8] {
-        slice::from_ref(&label.code)
+        label.as_slice()
     }
 
     fn cut<'w>(label: &Letter, word: Word<'w>) -> Option<Word<'w>> {

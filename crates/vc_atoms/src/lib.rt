@@ -1,6 +1,14 @@
 //! The label sets of one tape: letters, nullable letters and words.
 #![tactic(auto)]
 
+mod laws;
 mod letters;
+mod nullable;
+#[cfg(test)]
+mod tests;
+mod words;
 
+pub use laws::letters_have_one_letter;
 pub use letters::{Letter, Letters};
+pub use nullable::Nullable;
+pub use words::{WordLabel, Words};

@@ -1,5 +1,7 @@
 -- The transitions of a state stand together.
-use Rattle.std.proofs.Common.{◌≡◌, ◌∙◌, sym, ap, refl, ℕ, zero, suc, ◌+◌, ◌-◌, ◌<◌, ◌≤◌, Bool, true, false, List, [], ◌∷◌, length, map, take, drop, cond, get_or, nat_cmp, Less, Equal, Greater, arith, ◌==◌}
+use Rattle.std.proofs.Common.{◌≡◌, ◌∙◌, sym, ap, refl, ℕ, zero, suc, ◌+◌, ◌-◌, ◌<◌, ◌≤◌, Bool, true, false, List, [], ◌∷◌, ◌++◌, length-append, below_more, length, map, take, drop, cond, get_or, nat_cmp, Less, Equal, Greater, arith, ◌==◌}
+use Rattle.std.proofs.Math.ListN.{get_or-append}
+use Rattle.std.proofs.Math.Seq.{get_or-append_seam}
 use Rattle.std.specs.Prelude.{nat_lt, filter}
 use Rattle.std.specs.List.{AllByRecursion}
 use Rattle.std.specs.List.Sorted.{IsStrictlySortedBy}
@@ -132,3 +134,27 @@ module _ {V : Type 0} where
     row_between ts view order =
         rw (is, ← view, at_start, at_end)
         (sym (take-map f _ (drop _ items)) ∙ ap (take _) (sym (drop-map f _ items)) ∙ row_of_state s (map f items) order)
+
+  -- the first transitions come from states below s, and those after them do not
+  pub counted : {X : Type 0} (f : X → Transition V) (s at : ℕ) (xs : List X) → AreInOrder (map f xs) → at ≤ length xs
+      → ((k : ℕ) (d : X) → k < at → (f (get_or xs k d)).from < s) → (at < length xs → (d : X) → s ≤ (f (get_or xs at d)).from) → count_below (map f xs) s ≡ at
+  counted f s zero [] o w p e = refl
+  counted f s (suc at) [] o w p e = absurd (omega arith)
+  counted f s zero (x ∷ xs) o w p e =
+      let here : s ≤ (f x).from = e (omega arith) x in
+      count_below-none s (f x ∷ map f xs) (here, later s (f x).from (map f xs) here (from_order (f x) (map f xs) (sorted_head triple_order (f x) (map f xs) o)))
+  counted f s (suc at) (x ∷ xs) o w p e =
+      let below : (f x).from < s = p 0 x (omega arith) in
+      let b : nat_lt (f x).from s ≡ true = grind (arith, common_steps) in
+      rw b (ap (λ n. suc n)
+        (counted f s at xs (sorted_tail triple_order (f x) (map f xs) o) (omega arith)
+          (λ k d h. p (suc k) d (omega arith)) (λ h d. e (omega arith) d)))
+
+  -- one more start
+  pub starts-push : (ts : List (Transition V)) (old new : List ℕ) (n at : ℕ) → new ≡ old ++ at ∷ [] → length old ≡ n → ((s d : ℕ) → s < n → get_or old s d ≡ count_below ts s)
+      → count_below ts n ≡ at → (length new ≡ n + 1) × ((s d : ℕ) → s < n + 1 → get_or new s d ≡ count_below ts s)
+  starts-push ts old new n at is len places here =
+      let places_more = below_more (λ s. (d : ℕ) → get_or new s d ≡ count_below ts s) n
+        (λ s h d. let l : s < length old = omega (arith, len) in rw (is, get_or-append old (at ∷ []) d s l) (places s d h))
+        (λ d. rw (is, ← len, get_or-append_seam old at [] d) (sym (rw (← len) at here))) in
+      (rw is (omega (arith, length-append old (at ∷ []), len)), λ s d h. places_more s h d)

@@ -20,3 +20,7 @@ count_below ts s = length (filter (λ t. nat_lt t.from s) ts)
 pub record AreStarts {V : Type 0} (ts : List (Transition V)) (n : ℕ) (starts : List ℕ) : Type 0 where
   pub length : length starts ≡ n + 1
   pub place : (s d : ℕ) → s ≤ n → slice_index_or starts s d ≡ count_below ts s
+
+-- the transition that an entry of a map by source, label and target stands for
+abbrev pub entry_transition : {B V : Type 0} → (B → Word) → (ℕ × B × ℕ) × V → Transition V
+entry_transition parts e = record { from = e.0.0; label = parts e.0.1; to = e.0.2; weight = e.1 }

@@ -1,4 +1,6 @@
+use crate::starts::starts;
 use crate::transition::Transition;
+use std::alloc::{AllocError, Global};
 use std::marker::Model;
 use vc_label::LabelSet;
 use vc_ring::Semiring;
@@ -35,9 +37,31 @@ impl<L: LabelSet, S: Semiring> Model for Automaton<L, S> {
 }
 
 impl<L: LabelSet, S: Semiring> Automaton<L, S> {
-    ghost use Rattle.std.specs.Prelude.{◌≡◌, ◌<◌, ◌==◌, IsTrue, map, filter};
-    ghost use Rattle.vc_aut.specs.Stored.{transition_of};
+    ghost use Rattle.std.specs.Prelude.{◌≡◌, ◌<◌, ◌==◌, IfOk, IsTrue, map, filter};
+    ghost use Rattle.vc_aut.specs.Stored.{automaton_of, transition_of};
+    ghost use Rattle.vc_aut.specs.Validity.{IsLabelled};
     ghost use Rattle.vc_model.specs.Automata.{initial_weight, final_weight};
+
+    /// The automaton of these parts: the transitions are in order, and none has the weight zero.
+    pub(crate) fn new(
+        alloc: Global,
+        labels: L,
+        initial_weights: Vec<S::Value>,
+        final_weights: Vec<S::Value>,
+        transitions: Vec<Transition<L, S>>,
+    ) -> Result<Self, AllocError>
+        requires { IsLabelled S.set (record { sets = L.sets labels; automaton = automaton_of initial_weights.items final_weights.items (map (transition_of L.parts) transitions.items) }) }
+        ensures { IfOk result (λ a. a ≡ record { sets = L.sets labels; automaton = automaton_of initial_weights.items final_weights.items (map (transition_of L.parts) transitions.items) }) }
+    {
+        let starts = starts(alloc, transitions.as_slice(), initial_weights.len())?;
+        Ok(Automaton {
+            labels,
+            initial_weights,
+            final_weights,
+            transitions,
+            starts,
+        })
+    }
 
     /// The label set of the transitions.
     pub fn labels(&self) -> &L

@@ -2,9 +2,13 @@
 #![tactic(auto)]
 
 mod automaton;
+mod builder;
 mod laws;
+mod moves;
+mod starts;
 mod transition;
 
 pub use automaton::Automaton;
+pub use builder::Builder;
 pub use laws::automata_are_valid;
 pub use transition::Transition;

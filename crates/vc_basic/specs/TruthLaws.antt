@@ -76,7 +76,7 @@ truth_ranges = record {
 pub truth_absorbs : Absorbs truths
 truth_absorbs a = refl
 
-bit_written : (b : Bool) → spelled_bit (bit_text b) ≡ Some b
+pub bit_written : (b : Bool) → spelled_bit (bit_text b) ≡ Some b
 bit_written true = refl
 bit_written false = refl
 
@@ -89,7 +89,7 @@ weight_byte_one b e = record { low = omega (arith, e); high = omega (arith, e); 
 single_byte : (d : ℕ) → IsWeightByte d → All IsWeightByte (d ∷ [])
 single_byte d p = grind (arith, common_steps)
 
-bit_bytes : (b : Bool) → All IsWeightByte (bit_text b)
+pub bit_bytes : (b : Bool) → All IsWeightByte (bit_text b)
 bit_bytes true = single_byte 49 (weight_byte_one 49 refl)
 bit_bytes false = single_byte 48 (weight_byte 48 refl)
 

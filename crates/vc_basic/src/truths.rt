@@ -3,6 +3,7 @@ ghost use Rattle.std.proofs.Common.{arith};
 ghost use Rattle.vc_basic.specs.Truths.{truths, spelled_bit, bit_text};
 ghost use Rattle.vc_basic.specs.TruthLaws.{truth_laws, truth_ranges, truth_absorbs, truth_texts};
 
+use crate::steps::{read_bit, write_bit};
 use std::alloc::AllocError;
 use vc_ring::{NumberFault, Overflow, Semiring, StarFault};
 
@@ -56,14 +57,10 @@ impl Semiring for B {
     }
 
     fn read(text: &[u8]) -> Result<bool, NumberFault> {
-        match text {
-            [b'0'] => Ok(false),
-            [b'1'] => Ok(true),
-            _ => Err(NumberFault::Bad),
-        }
+        read_bit!(text)
     }
 
     fn write(value: bool, into: &mut String) -> Result<(), AllocError> {
-        into.push(if value { '1' } else { '0' })
+        write_bit!(value, into)
     }
 }

@@ -1,11 +1,19 @@
 -- The bits of an alphabet.
-use Rattle.std.proofs.Common.{◌≡◌, ℕ, zero, suc, ◌*◌, ◌%◌, ◌^◌, ◌<◌, max, Bool, true, false, ◌||◌, ◌⊎◌, inl, inr, refl, sym, subst, ◌∙◌, arith, IsTrue, bit_or}
+use Rattle.std.proofs.Common.{◌≡◌, ap, ℕ, zero, suc, ◌+◌, ◌≤◌, ◌*◌, ◌%◌, ◌^◌, ◌<◌, max, Bool, true, false, ◌||◌, ◌⊎◌, inl, inr, refl, sym, subst, ◌∙◌, length, slice_index, ◌↔◌, arith, IsTrue, bit_or}
+use Rattle.std.proofs.Math.Bool.{Bool-set}
+use Rattle.std.proofs.lemmas.Bool.{true≢false}
+use Rattle.std.proofs.lemmas.List.Kept.{IsStrictlyIncreasing-filter}
 use Rattle.std.specs.Int.{bit_at, w128}
+use Rattle.std.specs.List.Sorted.{IsStrictlyIncreasing}
 use Rattle.std.specs.Bool.{◌==◌}
-use Rattle.std.proofs.lemmas.Nat.Bits.{bit_at_or, bit_at_set_same, bit_at_set_other, bit_at-lt}
-use Rattle.std.proofs.lemmas.Bool.Decides.{eqb_tells}
+use Rattle.std.proofs.lemmas.Nat.Bits.{bit_at_or, bit_at_set_same, bit_at_set_other, bit_at-lt, same_from_bits}
+use Rattle.std.proofs.lemmas.Bool.Decides.{eqb_tells, Decides-eqb}
 use Rattle.std.proofs.lemmas.Grind.{common_steps}
+use Rattle.vc_label.specs.Alphabets.{has_letter, letters_of}
 use Rattle.vc_label.specs.Letters.{is_letter}
+use Rattle.vc_label.specs.declared.alphabet.Alphabet.{Alphabet}
+use Rattle.vc_model.proofs.Members.{In-filter, In-filter_from, up_from-In}
+use Rattle.vc_model.specs.Lists.{In, up_from}
 
 is_bit : (m : ℕ) → m < 2 → (m ≡ 0) ⊎ (m ≡ 1)
 is_bit zero l = inl refl
@@ -60,3 +68,50 @@ or_letters m n h k x e =
       | inl p ↦ h x p
       | inr p ↦ k x p
     ]
+
+only_letters_IsProp : (n : ℕ) → IsProp (OnlyLetters n)
+only_letters_IsProp n = hlevel Bool-set
+
+-- alphabets with the same bits
+same_bits : (s t : Alphabet) → s.bits ≡ t.bits → s ≡ t
+same_bits s t e = subst (λ (n : ℕ). (l : OnlyLetters n) → s ≡ record { bits = n; letters = l }) e (λ l. ap (λ (k : OnlyLetters s.bits). (let r : Alphabet = record { bits = s.bits; letters = k } in r)) (only_letters_IsProp s.bits s.letters l)) t.letters
+
+bit_of_test : (a b : ℕ) → (a ≡ 0) ⊎ (a ≡ 1) → (b ≡ 0) ⊎ (b ≡ 1) → (a == 1) ≡ (b == 1) → a ≡ b
+bit_of_test a b (inl p) (inl q) e = p ∙ sym q
+bit_of_test a b (inl p) (inr q) e = let f : false ≡ true = rw (p, q) at e in absurd (true≢false (sym f))
+bit_of_test a b (inr p) (inl q) e = let f : true ≡ false = rw (p, q) at e in absurd (true≢false f)
+bit_of_test a b (inr p) (inr q) e = p ∙ sym q
+
+pub same_alphabets : (s t : Alphabet) → ((x : ℕ) → has_letter s x ≡ has_letter t x) → s ≡ t
+same_alphabets s t h = same_bits s t (same_from_bits s.bits t.bits (λ x. bit_of_test (bit_at s.bits x) (bit_at t.bits x) (is_bit (bit_at s.bits x) (bit_at-lt s.bits x)) (is_bit (bit_at t.bits x) (bit_at-lt t.bits x)) (h x)))
+
+pub letters_only : (s : Alphabet) (x : ℕ) → has_letter s x ≡ true → IsTrue (is_letter x)
+letters_only s x h = s.letters x ((Decides-eqb (bit_at s.bits x) 1).0 h)
+
+pub listed : (s : Alphabet) (x : ℕ) → In x (letters_of s) ↔ (has_letter s x ≡ true)
+unfolding letters_of
+listed s x = (
+  λ i. (In-filter_from (has_letter s) x (up_from 0x21 94) i).1,
+  λ h. let l = letters_only s x h in
+      let low : 0x21 ≤ x = grind (arith, common_steps) in
+      let high : x < 0x21 + 94 = grind (arith, common_steps) in
+      In-filter (has_letter s) x (up_from 0x21 94) (up_from-In x 0x21 94 low high) h,
+)
+
+length_up_from : (s n : ℕ) → length (up_from s n) ≡ n
+length_up_from s zero = refl
+length_up_from s (suc n) = ap suc (length_up_from (suc s) n)
+
+at_up_from : (s n k : ℕ) → k < n → slice_index (up_from s n) k ≡ s + k
+at_up_from s zero k l = absurd (omega arith)
+at_up_from s (suc n) zero l = omega arith
+at_up_from s (suc n) (suc k) l = let e = at_up_from (suc s) n k (omega arith) in e ∙ omega arith
+
+ascends : (s n : ℕ) → IsStrictlyIncreasing (up_from s n)
+ascends s n k l =
+    let m : k + 1 < n = omega (arith, length_up_from s n) in
+    omega (arith, at_up_from s n k (omega arith), at_up_from s n (k + 1) m)
+
+pub listed_in_order : (s : Alphabet) → IsStrictlyIncreasing (letters_of s)
+unfolding letters_of
+listed_in_order s = IsStrictlyIncreasing-filter (has_letter s) (up_from 0x21 94) (ascends 0x21 94)

@@ -5,12 +5,14 @@ mod alphabet;
 mod label_set;
 mod laws;
 mod tape_set;
+#[cfg(test)]
+mod tests;
 mod word;
 mod word_buf;
 
 pub use alphabet::Alphabet;
 pub use label_set::{LabelFault, LabelSet};
-pub use laws::words_are_ordered;
+pub use laws::{alphabets_are_sets, words_are_ordered};
 pub use tape_set::{TapeKind, TapeSet};
 pub use word::Word;
 pub use word_buf::WordBuf;

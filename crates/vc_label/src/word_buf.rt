@@ -1,7 +1,7 @@
 ghost use Rattle.std.specs.Prelude.{◌≡◌, ◌<◌, ◌≤◌, [], ◌∷◌, ◌++◌, length, OnOk, OnErr, IsTrue, replicate, true};
 ghost use Rattle.vc_label.specs.Letters.{is_letter, are_letters};
 ghost use Rattle.vc_label.specs.Growth.{grown};
-ghost use Rattle.vc_model.specs.Words.{empty_word};
+ghost use Rattle.vc_model.specs.Words.{empty_word, join};
 
 use crate::word::Word;
 use std::alloc::{AllocError, Global};
@@ -80,25 +80,42 @@ impl WordBuf {
         }
     }
 
-    /// Appends letters to a tape.
+    /// Appends a word of as many tapes, each of its tapes to the tape of the same place.
     #[tactic(auto, using(crate::proofs::Letters::are_letters_append))]
-    pub fn extend(&mut self, tape: usize, letters: &[u8]) -> Result<(), AllocError>
-        requires exists { tape < length self.old }
-        requires letters { IsTrue (are_letters letters.now) }
-        ensures ok { OnOk result (self.new ≡ grown self.old tape letters.now) }
+    pub fn append(&mut self, word: Word<'_>) -> Result<(), AllocError>
+        requires { length self.old ≡ length (word_of word) }
+        ensures ok { OnOk result (self.new ≡ join self.old (word_of word.entry)) }
         ensures err { OnErr result (self.new ≡ self.old) }
     {
-        match (&mut self.lists, tape) {
-            (Lists::One(a), _) => return Ok(a.extend_from_slice(letters)?),
-            (Lists::Two(a, _), 0) => return Ok(a.extend_from_slice(letters)?),
-            (Lists::Two(_, b), _) => return Ok(b.extend_from_slice(letters)?),
-            (Lists::Three(a, _, _), 0) => return Ok(a.extend_from_slice(letters)?),
-            (Lists::Three(_, b, _), 1) => return Ok(b.extend_from_slice(letters)?),
-            (Lists::Three(_, _, c), _) => return Ok(c.extend_from_slice(letters)?),
-            (Lists::Four(a, _, _, _), 0) => return Ok(a.extend_from_slice(letters)?),
-            (Lists::Four(_, b, _, _), 1) => return Ok(b.extend_from_slice(letters)?),
-            (Lists::Four(_, _, c, _), 2) => return Ok(c.extend_from_slice(letters)?),
-            (Lists::Four(_, _, _, d), _) => return Ok(d.extend_from_slice(letters)?),
+        match &mut self.lists {
+            Lists::One(a) => return Ok(a.extend_from_slice(word.tape(0))?),
+            Lists::Two(a, b) => {
+                let (x, y) = (word.tape(0), word.tape(1));
+                a.reserve(x.len())?;
+                b.reserve(y.len())?;
+                a.extend_from_slice(x)?;
+                return Ok(b.extend_from_slice(y)?);
+            }
+            Lists::Three(a, b, c) => {
+                let (x, y, z) = (word.tape(0), word.tape(1), word.tape(2));
+                a.reserve(x.len())?;
+                b.reserve(y.len())?;
+                c.reserve(z.len())?;
+                a.extend_from_slice(x)?;
+                b.extend_from_slice(y)?;
+                return Ok(c.extend_from_slice(z)?);
+            }
+            Lists::Four(a, b, c, d) => {
+                let (w, x, y, z) = (word.tape(0), word.tape(1), word.tape(2), word.tape(3));
+                a.reserve(w.len())?;
+                b.reserve(x.len())?;
+                c.reserve(y.len())?;
+                d.reserve(z.len())?;
+                a.extend_from_slice(w)?;
+                b.extend_from_slice(x)?;
+                c.extend_from_slice(y)?;
+                return Ok(d.extend_from_slice(z)?);
+            }
         }
     }
 

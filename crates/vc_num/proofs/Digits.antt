@@ -29,7 +29,8 @@ pub digits_alone : (text : List ℕ) → length text ≤ prefix_len is_ascii_dig
 digits_alone [] h = refl
 digits_alone (c ∷ cs) h = alone (is_ascii_digit c) (prefix_len is_ascii_digit cs) (length cs) (all_ascii_digits cs) (digits_alone cs) h
 
-digit_low : (c : ℕ) (rest : Bool) → (is_ascii_digit c && rest) ≡ true → 48 ≤ c
+-- a text that begins with a digit
+pub digit_low : (c : ℕ) (rest : Bool) → (is_ascii_digit c && rest) ≡ true → 48 ≤ c
 digit_low c rest h = grind (arith, nat_tests)
 
 digits_rest : (b rest : Bool) → (b && rest) ≡ true → rest ≡ true

@@ -1,3 +1,4 @@
 pub mod Digits
 pub mod Divisibility
+pub mod Printed
 pub mod Whole

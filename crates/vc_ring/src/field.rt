@@ -1,7 +1,7 @@
 ghost use Rattle.std.specs.Prelude.{◌≡◌, ◌≢◌, IsTrue, List, OnOk, OnErr};
 ghost use Rattle.vc_model.specs.WeightSet.{FieldLaws, SplitLaws, IsZeroRow, InRange};
 ghost use Rattle.vc_ring.specs.Steps.{outcome};
-ghost use Rattle.vc_ring.specs.Splits.{IsSplitInFront};
+ghost use Rattle.vc_ring.specs.Splits.{IsSplitInFront, SplitRanges};
 
 use crate::faults::Overflow;
 use crate::semiring::Semiring;
@@ -54,4 +54,7 @@ pub trait Split: Semiring {
 
     /// The factor times the normal row is the row, and a factor before a row keeps its normal row.
     ghost split_laws: { SplitLaws Self.set factor normal };
+
+    /// The factor and the normal row are values, where the steps fit.
+    ghost split_ranges: { SplitRanges Self.set factor normal split_steps };
 }

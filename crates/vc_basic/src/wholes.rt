@@ -1,0 +1,91 @@
+ghost use Rattle.std.specs.Prelude.{◌≡◌, ◌<◌, true, false, IsTrue};
+ghost use Rattle.std.specs.Fmt.{signed_decimal};
+ghost use Rattle.std.specs.Option.{option_map};
+ghost use Rattle.std.proofs.Common.{arith};
+ghost use Rattle.std.proofs.lemmas.Int.{ints};
+ghost use Rattle.vc_ring.specs.Texts.{read_as};
+ghost use Rattle.vc_basic.specs.Texts.{spelled_natural};
+ghost use Rattle.vc_basic.specs.Wholes.{wholes, signed, spelled_whole, magnitude_fits, whole_fits};
+ghost use Rattle.vc_basic.specs.WholeLaws.{whole_laws, whole_ranges, wholes_absorb};
+ghost use Rattle.vc_basic.specs.WholeTexts.{whole_texts};
+
+use crate::steps::{star_of_zero, step, write_number};
+use std::alloc::AllocError;
+use vc_num::{DecimalFault, checked_add, checked_mul, read_decimal};
+use vc_ring::{NumberFault, Overflow, Semiring, StarFault};
+
+/// The whole numbers of magnitude at most 2^127 - 1. Sums and products past it do not fit, and zero
+/// alone has a star.
+#[derive(Clone, Copy, Debug, PartialEq, Eq)]
+pub struct Z;
+
+impl Semiring for Z {
+    type Value = i128;
+
+    const ABSORBS: bool = false;
+
+    ghost ABSORBS = { false };
+
+    ghost set = { wholes };
+
+    ghost spelled = { spelled_whole };
+
+    ghost numbers_fit = { whole_fits };
+
+    ghost canonical = { signed_decimal };
+
+    ghost laws = { whole_laws };
+
+    ghost ranges = { whole_ranges };
+
+    ghost same = { λ a b. Prim.grind (arith, ints) };
+
+    ghost absorbs = { ((λ h. absurd (Prim.cc h)), wholes_absorb) };
+
+    ghost texts = { whole_texts };
+
+    fn zero() -> i128 {
+        0
+    }
+
+    fn one() -> i128 {
+        1
+    }
+
+    fn add(left: i128, right: i128) -> Result<i128, Overflow<i128>> {
+        step!(Add, checked_add(left, right), left, right)
+    }
+
+    fn mul(left: i128, right: i128) -> Result<i128, Overflow<i128>> {
+        step!(Mul, checked_mul(left, right), left, right)
+    }
+
+    fn star(of: i128) -> Result<i128, StarFault<i128>> {
+        star_of_zero!(of, 0, 1)
+    }
+
+    fn read(text: &[u8]) -> Result<i128, NumberFault> {
+        match text {
+            [b'-', digits @ ..] => read_signed(true, digits),
+            _ => read_signed(false, text),
+        }
+    }
+
+    fn write(value: i128, into: &mut String) -> Result<(), AllocError> {
+        write_number!(value, into)
+    }
+}
+
+// The number that digits spell, as a magnitude.
+fn read_signed(negative: bool, digits: &[u8]) -> Result<i128, NumberFault>
+    ensures { result ≡ read_as (option_map (signed negative) (spelled_natural digits.now)) (magnitude_fits digits.now) }
+{
+    match read_decimal(digits) {
+        Ok(number) if number < 1 << 127 => {
+            let magnitude = number as i128;
+            Ok(if negative { -magnitude } else { magnitude })
+        }
+        Ok(_) | Err(DecimalFault::Overflow) => Err(NumberFault::Overflow),
+        Err(DecimalFault::NotDigits { .. }) => Err(NumberFault::Bad),
+    }
+}

@@ -1,0 +1,4 @@
+pub mod Growth
+pub mod Names
+pub mod OneFile
+pub mod Pieces
