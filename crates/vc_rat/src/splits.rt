@@ -4,7 +4,7 @@ ghost use Rattle.vc_ring.specs.Splits.{IsSplitInFront};
 ghost use Rattle.vc_ring.specs.Steps.{outcome};
 ghost use Rattle.vc_rat.specs.Rationals.{zero, holds, rationals};
 ghost use Rattle.vc_rat.specs.Rows.{row_times};
-ghost use Rattle.vc_rat.specs.Splits.{row_factor, normal_fractions, product_steps, normal_steps, rational_splits};
+ghost use Rattle.vc_rat.specs.Splits.{row_factor, normal_fractions, product_steps, normal_steps, rational_splits, rational_split_ranges};
 
 use crate::{Fraction, Q};
 use vc_ring::{Field, Overflow, Semiring, Split};
@@ -17,6 +17,8 @@ impl Split for Q {
     ghost split_steps = { normal_steps };
 
     ghost split_laws = { rational_splits };
+
+    ghost split_ranges = { rational_split_ranges };
 
     fn split(row: &mut [Fraction]) -> Result<Fraction, Overflow<Fraction>> {
         let factor = first_other(row);
