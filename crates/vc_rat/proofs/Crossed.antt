@@ -1,5 +1,5 @@
 -- That the product by the divisors across is the product in lowest terms.
-use Rattle.std.proofs.Common.{◌≡◌, ℕ, ℤ, ◌<◌, ◌*◌, ◌/◌, ◌*ℤ◌, pos, unsigned_abs, int_div, Bool, true, false, ◌&&◌, cond, Option, Some, None, refl, sym, ap, ◌∙◌, subst}
+use Rattle.std.proofs.Common.{◌≡◌, ℕ, ℤ, ◌<◌, ◌*◌, ◌/◌, ◌*ℤ◌, pos, unsigned_abs, int_div, ◌&&◌, cond, Option, Some, None, refl, sym, ap, ◌∙◌, subst}
 use Rattle.std.specs.Int.{◌∣◌}
 use Rattle.std.proofs.lemmas.Int.{unsigned_abs-mul}
 use native.Mathlib.Nat.{div-mul_cancel, dvd-mul_right, dvd_trans, eq-one_of_dvd-one}

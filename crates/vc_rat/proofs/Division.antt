@@ -1,5 +1,5 @@
 -- What a division by the greatest common divisor gives.
-use Rattle.std.proofs.Common.{◌≡◌, ℕ, ℤ, ◌<◌, ◌≤◌, ◌/◌, ◌^◌, ◌*ℤ◌, pos, unsigned_abs, int_div, nat_lt, IsTrue, FitsSigned, to_z, of_z, refl, sym, ap, ◌∙◌, arith, subst}
+use Rattle.std.proofs.Common.{◌≡◌, ℕ, ℤ, ◌<◌, ◌≤◌, ◌/◌, ◌^◌, ◌*ℤ◌, pos, unsigned_abs, int_div, nat_lt, IsTrue, FitsSigned, to_z, of_z, sym, ap, ◌∙◌, arith, subst}
 use Rattle.std.specs.Int.{IsGcd}
 use Rattle.std.proofs.lemmas.Int.{to_z-of_z}
 use native.Mathlib.Nat.{le_of_dvd, pos_of_dvd_of_pos}

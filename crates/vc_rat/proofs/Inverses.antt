@@ -1,5 +1,5 @@
 -- That bottom over top is in lowest terms where top over bottom is.
-use Rattle.std.proofs.Common.{◌≡◌, ◌≢◌, ℕ, ℤ, ◌<ℤ◌, pos, unsigned_abs, sym, ap, ◌∙◌, subst}
+use Rattle.std.proofs.Common.{◌≡◌, ◌≢◌, ℕ, ℤ, pos, unsigned_abs, sym, ap, ◌∙◌, subst}
 use Rattle.vc_num.specs.Divisors.{gcd_of}
 use Rattle.vc_num.proofs.Divisibility.{gcd_of-comm}
 use Rattle.vc_rat.specs.Fields.{signed, magnitude-signed, top-positive}

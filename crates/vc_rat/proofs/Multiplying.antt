@@ -1,9 +1,9 @@
 -- Multiplying a row entry by entry.
-use Rattle.std.proofs.Common.{◌≡◌, ℕ, suc, ◌+◌, ◌<◌, ◌≤◌, List, [], ◌∷◌, ◌++◌, map, take, drop, set, get_or, length, Bool, true, false, IsTrue, cond, Result, Ok, Err, All, OnErr, refl, sym, ap, ◌∙◌, subst, arith, add-one}
+use Rattle.std.proofs.Common.{◌≡◌, ℕ, suc, ◌+◌, ◌<◌, List, [], ◌∷◌, ◌++◌, take, drop, set, get_or, length, Bool, true, false, IsTrue, cond, Result, Ok, Err, OnErr, refl, sym, ap, ◌∙◌, subst, arith, add-one}
 use Rattle.std.proofs.Math.Nat.{add-zero}
 use Rattle.std.proofs.Math.Seq.{drop-cons}
 use Rattle.std.proofs.lemmas.Grind.{drop_more_same}
-use Rattle.std.proofs.lemmas.List.{get_or-drop, take_more, take_more_set, take-set, take-map, drop-set-lt, map-append, set-get_or}
+use Rattle.std.proofs.lemmas.List.{get_or-drop, take_more, take_more_set, take-map, drop-set-lt, map-append, set-get_or}
 use Rattle.vc_model.specs.WeightSet.{InRange}
 use Rattle.vc_ring.specs.Splits.{IsSplitInFront}
 use Rattle.vc_ring.specs.Steps.{outcome, multiplied}

@@ -1,5 +1,5 @@
 -- What a pair that a test lets through came from.
-use Rattle.std.proofs.Common.{◌≡◌, ℕ, ℤ, Bool, true, false, cond, Option, Some, None, refl, sym, ap, ◌∙◌}
+use Rattle.std.proofs.Common.{◌≡◌, ℕ, ℤ, Bool, true, false, cond, Option, Some, None, refl, sym, ap}
 
 pub pair-some : (b : Bool) (t t' : ℤ) (n n' : ℕ) → ◌≡◌ {A = Option (ℤ × ℕ)} (cond b (Some (t', n')) None) (Some (t, n)) → (b ≡ true) × (t ≡ t') × (n ≡ n')
 pair-some true t t' n n' h = let e : ◌≡◌ {A = ℤ × ℕ} (t', n') (t, n) = cc in (refl, sym (ap (λ (p : ℤ × ℕ). p.0) e), sym (ap (λ (p : ℤ × ℕ). p.1) e))

@@ -1,5 +1,5 @@
 -- That the sum by the divisor of the bottoms is the sum.
-use Rattle.std.proofs.Common.{◌≡◌, ℕ, ℤ, ◌<◌, ◌*◌, ◌/◌, ◌+ℤ◌, ◌*ℤ◌, pos, Bool, true, false, cond, Option, Some, None, refl, sym, ap, ◌∙◌, subst}
+use Rattle.std.proofs.Common.{◌≡◌, ℕ, ℤ, ◌<◌, ◌*◌, ◌/◌, ◌+ℤ◌, ◌*ℤ◌, pos, cond, Option, Some, None, refl, sym, ap, ◌∙◌, subst}
 use Rattle.vc_num.specs.Divisors.{gcd_of}
 use Rattle.vc_rat.specs.Rationals.{plus, fits_plus, parts_fit, denominator, positive}
 use Rattle.vc_rat.specs.Reduced.{magnitude-is}

@@ -1,10 +1,9 @@
 -- That a text is read as what it spells.
-use Rattle.std.proofs.Common.{◌≡◌, ℕ, zero, suc, ℤ, ◌<◌, ◌*ℤ◌, pos, Bool, true, false, ◌&&◌, List, take, drop, Option, Some, None, Result, Ok, Err, cond, nat_lt, ◌^◌, refl, sym, ap, ◌∙◌, subst, arith}
+use Rattle.std.proofs.Common.{◌≡◌, ℕ, zero, suc, ℤ, ◌<◌, ◌*ℤ◌, pos, Bool, true, false, ◌&&◌, List, take, drop, Option, Some, None, Result, Ok, cond, nat_lt, ◌^◌, refl, sym, ap, ◌∙◌, subst, arith}
 use Rattle.vc_num.specs.Decimals.{is_numeral, number_of_digits}
 use Rattle.vc_ring.specs.Texts.{read_as}
 use Rattle.vc_ring.specs.declared.faults.NumberFault.{NumberFault}
-use Rattle.vc_ring.specs.declared.faults.NumberFault.TheVariants.{Bad, Overflow}
-use Rattle.vc_rat.specs.Rationals.{reduced, denominator, positive}
+use Rattle.vc_rat.specs.Rationals.{reduced}
 use Rattle.vc_rat.specs.Reduced.{positive-suc, magnitude-is}
 use Rattle.vc_rat.specs.Stands.{stands-reduced, stands-same}
 use Rattle.vc_rat.specs.Texts.{numeral_of, numeral_fits, whole_of, whole_fits, quotient_of, quotient_read, slash_in, spelled_at, fits_at, spelled_fraction, fraction_fits}

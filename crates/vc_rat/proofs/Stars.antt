@@ -1,9 +1,8 @@
 -- That the quotient of the bottom by the bottom less the top is the star.
-use Rattle.std.proofs.Common.{◌≡◌, ℕ, ℤ, ◌<◌, ◌-ℤ◌, ◌*ℤ◌, ◌<ℤ◌, max, pos, unsigned_abs, nat_lt, Bool, true, false, cond, Option, Some, None, Result, Ok, Err, refl, sym, ap, ◌∙◌, subst, arith}
+use Rattle.std.proofs.Common.{◌≡◌, ℕ, ℤ, ◌<◌, ◌-ℤ◌, ◌*ℤ◌, ◌<ℤ◌, max, pos, unsigned_abs, nat_lt, Bool, true, cond, Result, Ok, Err, sym, ap, ◌∙◌, arith}
 use Rattle.std.proofs.lemmas.Int.{ints}
 use Rattle.vc_num.specs.Range.{in_range}
 use Rattle.vc_ring.specs.Steps.{starred}
-use Rattle.vc_ring.specs.declared.faults.StarFault.{StarFault}
 use Rattle.vc_rat.specs.Rationals.{star, denominator, rationals}
 use Rattle.vc_rat.specs.Reduced.{positive-max}
 use Rattle.vc_rat.proofs.Readings.{reduced-from}

@@ -1,5 +1,5 @@
 -- A checked step on signed numbers, at the numbers themselves.
-use Rattle.std.proofs.Common.{arith, ◌≡◌, ℕ, suc, ℤ, pos, negsuc, ◌+ℤ◌, ◌&&◌, Bool, true, false, cond, Option, Some, None, to_z, of_z, FitsSigned, nat_lt, ◌<◌, ◌^◌, ap, ◌∙◌, sym, subst, refl}
+use Rattle.std.proofs.Common.{arith, ◌≡◌, ℕ, suc, ℤ, pos, negsuc, ◌+ℤ◌, ◌&&◌, Bool, true, cond, Option, Some, None, to_z, of_z, FitsSigned, nat_lt, ◌<◌, ◌^◌, ap, ◌∙◌, sym, subst}
 use Rattle.std.proofs.lemmas.Int.{to_z-of_z}
 use mir.Syntax.{w128}
 use Rattle.vc_num.specs.Range.{in_range, ranged}

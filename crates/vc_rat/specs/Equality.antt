@@ -1,7 +1,7 @@
 -- That fractions compare equal where they are the same.
-use Rattle.std.specs.Prelude.{◌≡◌, ◌↔◌, ℤ, pos, Bool, true, ◌&&◌, IsTrue}
+use Rattle.std.specs.Prelude.{◌≡◌, ◌↔◌, ℤ, Bool, ◌&&◌, IsTrue}
 use Rattle.std.specs.Ordering.{int_eq}
-use Rattle.std.proofs.Common.{refl, arith, subst}
+use Rattle.std.proofs.Common.{arith, subst}
 use Rattle.std.proofs.lemmas.Int.{ints}
 use Rattle.vc_rat.specs.RationalRanges.{and-both, and-first, and-second}
 use Rattle.vc_rat.specs.Stands.{same_parts}

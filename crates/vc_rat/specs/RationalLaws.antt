@@ -1,12 +1,12 @@
 -- The laws of the rational numbers.
-use Rattle.std.specs.Prelude.{◌≡◌, ◌≢◌, ℕ, ◌<◌, ◌*◌, max, ℤ, pos, ◌+ℤ◌, ◌-ℤ◌, ◌*ℤ◌, ◌<ℤ◌, unsigned_abs, nat_lt, IsTrue, false, ◌↔◌}
+use Rattle.std.specs.Prelude.{◌≡◌, ◌≢◌, ◌*◌, max, ℤ, pos, ◌+ℤ◌, ◌-ℤ◌, ◌*ℤ◌, ◌<ℤ◌, unsigned_abs, nat_lt, IsTrue, false, ◌↔◌}
 use Rattle.std.proofs.Common.{refl, sym, ap, ◌∙◌, arith, subst}
 use Rattle.std.proofs.lemmas.Int.{ints}
-use Rattle.vc_model.specs.WeightSet.{WeightSet, SemiringLaws, Absorbs}
+use Rattle.vc_model.specs.WeightSet.{SemiringLaws, Absorbs}
 use Rattle.vc_model.proofs.Rearranged.{semiring}
 use Rattle.vc_rat.specs.Reduced.{positive-mul, positive-max, magnitude-is}
-use Rattle.vc_rat.specs.Rationals.{reduced, plus, times, zero, one, star, denominator, positive, rationals}
-use Rattle.vc_rat.specs.Stands.{Stands, stands-reduced, stands-plus, stands-times, stands-same}
+use Rattle.vc_rat.specs.Rationals.{plus, times, zero, one, star, denominator, positive, rationals}
+use Rattle.vc_rat.specs.Stands.{stands-reduced, stands-plus, stands-times, stands-same}
 use Rattle.vc_rat.specs.Whole.{whole, whole_laws}
 use Rattle.vc_rat.specs.declared.fraction.Fraction.{Fraction}
 

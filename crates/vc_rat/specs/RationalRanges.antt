@@ -1,15 +1,15 @@
 -- Which steps of rational numbers fit, and that what they make is in range.
-use Rattle.std.specs.Prelude.{◌≡◌, ℕ, ◌<◌, ◌≤◌, ◌+◌, ◌*◌, ◌/◌, ◌^◌, max, ℤ, pos, ◌+ℤ◌, ◌-ℤ◌, ◌*ℤ◌, unsigned_abs, nat_lt, IsTrue, Bool, true, ◌&&◌}
+use Rattle.std.specs.Prelude.{◌≡◌, ℕ, ◌<◌, ◌≤◌, ◌*◌, ◌/◌, ◌^◌, max, ℤ, pos, ◌+ℤ◌, ◌-ℤ◌, ◌*ℤ◌, unsigned_abs, nat_lt, IsTrue, Bool, ◌&&◌}
 use Rattle.std.proofs.Common.{refl, sym, ap, ◌∙◌, arith, subst}
 use Rattle.std.proofs.lemmas.Int.{ints}
 use Rattle.std.proofs.Math.IntN.{*ℤ_comm, zero-*ℤ}
 use native.Mathlib.Nat.{one-dvd, div-one, div-le_self}
 use Rattle.vc_num.specs.Divisors.{gcd_of}
 use Rattle.vc_num.specs.Range.{in_range}
-use Rattle.vc_num.proofs.Divisibility.{gcd_of-is, gcd_of-from}
+use Rattle.vc_num.proofs.Divisibility.{gcd_of-from}
 use Rattle.vc_model.specs.WeightSet.{RangeLaws}
 use Rattle.vc_rat.specs.Reduced.{positive-max, magnitude-div}
-use Rattle.vc_rat.specs.Rationals.{reduced, plus, times, zero, one, star, holds, tops_fit, parts_fit, fits_plus, denominator, positive, rationals}
+use Rattle.vc_rat.specs.Rationals.{reduced, plus, zero, one, star, holds, tops_fit, parts_fit, fits_plus, denominator, positive, rationals}
 use Rattle.vc_rat.specs.Stands.{stands-reduced}
 use Rattle.vc_rat.specs.Sums.{sum-same, part-positive}
 use Rattle.vc_rat.specs.RationalLaws.{times-one, times-zero, times-comm}

@@ -1,9 +1,8 @@
 -- The rational numbers as weights: fractions in lowest terms.
-use Rattle.std.specs.Prelude.{◌≡◌, ℕ, ◌<◌, ◌*◌, ◌/◌, max, ℤ, pos, ◌+ℤ◌, ◌-ℤ◌, ◌*ℤ◌, ◌<ℤ◌, unsigned_abs, int_div, nat_lt, Bool, ◌&&◌}
+use Rattle.std.specs.Prelude.{ℕ, ◌<◌, ◌*◌, ◌/◌, max, ℤ, pos, ◌+ℤ◌, ◌-ℤ◌, ◌*ℤ◌, unsigned_abs, int_div, nat_lt, Bool, ◌&&◌}
 use Rattle.vc_num.specs.Divisors.{gcd_of}
 use Rattle.vc_num.specs.Range.{in_range}
 use Rattle.vc_model.specs.WeightSet.{WeightSet}
-use Rattle.vc_rat.specs.Lowest.{IsLowest}
 use Rattle.vc_rat.specs.Reduced.{reduced-lowest, positive-mul, magnitude-positive, zero-lowest, one-lowest, positive-max}
 use Rattle.vc_rat.specs.declared.fraction.Fraction.{Fraction}
 

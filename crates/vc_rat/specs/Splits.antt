@@ -1,7 +1,7 @@
 -- How rows of rational numbers split.
 use Rattle.std.specs.Prelude.{◌≡◌, ◌↔◌, ℤ, pos, Bool, true, false, IsTrue, cond, List, [], ◌∷◌, map, unsigned_abs}
 use Rattle.std.specs.Ordering.{int_eq}
-use Rattle.std.proofs.Common.{refl, ap, ◌∙◌, arith, subst, sym}
+use Rattle.std.proofs.Common.{refl, arith, subst, sym}
 use Rattle.std.proofs.lemmas.Int.{ints}
 use Rattle.std.proofs.lemmas.List.Elements.{All-nil, All-cons, All-head, All-tail}
 use Rattle.vc_model.specs.WeightSet.{SplitLaws, InRange}

@@ -1,12 +1,11 @@
 -- What it means that a fraction is n/d, and that no other fraction is.
-use Rattle.std.specs.Prelude.{◌≡◌, ℕ, ◌<◌, ◌*◌, ◌/◌, ℤ, pos, ◌+ℤ◌, ◌*ℤ◌, unsigned_abs}
+use Rattle.std.specs.Prelude.{◌≡◌, ℕ, ◌<◌, ◌*◌, ℤ, pos, ◌+ℤ◌, ◌*ℤ◌, unsigned_abs}
 use Rattle.std.specs.Int.{◌∣◌}
-use Rattle.std.proofs.Common.{refl, sym, ap, ◌∙◌, arith, subst}
+use Rattle.std.proofs.Common.{sym, ap, ◌∙◌, subst}
 use Rattle.std.proofs.lemmas.Int.{unsigned_abs-mul}
 use Rattle.std.proofs.lemmas.Nat.Gcd.{dvd_antisymm}
 use native.Mathlib.Nat.{dvd-mul_left}
 use Rattle.std.proofs.Props.{props}
-use Rattle.vc_num.specs.Divisors.{gcd_of}
 use Rattle.vc_num.proofs.Divisibility.{gcd_of-comm, gauss}
 use Rattle.vc_num.proofs.Whole.{*ℤ_cancel}
 use Rattle.vc_model.proofs.Rearranged.{semiring}

@@ -1,6 +1,6 @@
 -- Sums by the greatest common divisor of the bottoms.
 use Rattle.std.specs.Prelude.{◌≡◌, ℕ, ◌<◌, ◌*◌, ◌/◌, ℤ, pos, ◌+ℤ◌, ◌*ℤ◌}
-use Rattle.std.proofs.Common.{sym, ap, ◌∙◌, arith, subst, refl}
+use Rattle.std.proofs.Common.{sym, subst, refl}
 use Rattle.std.specs.Int.{IsGcd, ◌∣◌}
 use native.Mathlib.Nat.{div-mul_cancel}
 use Rattle.vc_num.specs.Divisors.{gcd_of}

@@ -1,22 +1,20 @@
 -- That the canonical text of a rational number is read again.
-use Rattle.std.specs.Prelude.{ℕ, zero, suc, ◌≡◌, ◌+◌, ◌*◌, ◌/◌, ◌%◌, ◌==◌, ◌<◌, ◌≤◌, ◌^◌, Bool, true, false, not, cond, ◌&&◌, IsTrue, List, [], ◌∷◌, ◌++◌, take, drop, length, All, Option, None, Some, ℤ, pos, negsuc, neg_ℤ, nat_lt, unsigned_abs, ◌<ℤ◌, ◌*ℤ◌}
+use Rattle.std.specs.Prelude.{ℕ, zero, suc, ◌≡◌, ◌+◌, ◌==◌, ◌<◌, ◌^◌, Bool, true, false, not, cond, ◌&&◌, IsTrue, List, [], ◌∷◌, ◌++◌, take, drop, length, All, Option, None, Some, ℤ, pos, negsuc, neg_ℤ, nat_lt, unsigned_abs, ◌<ℤ◌, ◌*ℤ◌}
 use Rattle.std.specs.Char.{is_ascii_digit}
-use Rattle.std.specs.Fmt.{decimal, signed_decimal, digits, digits_onto, digit_glyph}
-use Rattle.std.specs.List.{prefix_len, position}
+use Rattle.std.specs.Fmt.{decimal, signed_decimal}
+use Rattle.std.specs.List.{prefix_len}
 use Rattle.std.specs.Option.{option_map}
 use Rattle.std.specs.Ordering.{int_eq}
 use Rattle.std.specs.Str.{all_ascii_digits}
-use Rattle.std.specs.Str.Parse.{IsNumeral, digits_value}
-use Rattle.std.proofs.Common.{refl, sym, ap, ◌∙◌, arith, rules, subst, inl, inr}
-use Rattle.std.proofs.Math.Seq.{take-append_seam, drop-append_seam}
+use Rattle.std.proofs.Common.{refl, sym, ap, ◌∙◌, arith, subst}
+use Rattle.std.proofs.Math.Seq.{take-append_seam}
 use Rattle.std.proofs.lemmas.Bool.Decides.{nat_tests}
-use Rattle.std.proofs.lemmas.Fmt.{decimal_is_IsNumeral_wide}
 use Rattle.std.proofs.lemmas.List.{length-append, append-nil}
 use Rattle.std.proofs.lemmas.Int.{ints}
-use Rattle.std.proofs.lemmas.List.Elements.{All-nil, All-cons, All-append}
-use Rattle.std.proofs.lemmas.Str.Parse.{IsNumeralModel, numerals_by_fold}
-use Rattle.vc_num.specs.Decimals.{is_numeral, number_onto, number_of_digits}
+use Rattle.std.proofs.lemmas.List.Elements.{All-cons, All-append}
+use Rattle.vc_num.specs.Decimals.{is_numeral}
 use Rattle.vc_num.specs.Range.{in_range}
+use Rattle.vc_num.proofs.Printed.{is_numeral-decimal, number_of_digits-decimal, All-decimal}
 use Rattle.vc_ring.specs.Texts.{TextLaws, IsWeightByte}
 use Rattle.vc_rat.specs.Rationals.{reduced, holds, denominator, positive, rationals}
 use Rattle.vc_rat.specs.RationalRanges.{reduced-holds, and-both, and-first, and-second}
@@ -27,45 +25,11 @@ use Rattle.vc_rat.specs.declared.fraction.Fraction.{Fraction}
 
 -- digits
 
-own : IsNumeralModel (λ ds. all_ascii_digits ds ≡ true) (number_onto 0)
-own = numerals_by_fold _ (search rules) number_onto (search rules)
-
-glyph-digit : (d : ℕ) → d < 10 → is_ascii_digit (digit_glyph false d) ≡ true
-glyph-digit d h = grind (arith, nat_tests)
-
-mod-ten : (n : ℕ) → n % 10 < 10
-mod-ten n = omega arith
-
-more-digits : (c : ℕ) (cs : List ℕ) → is_ascii_digit c ≡ true → all_ascii_digits cs ≡ true → all_ascii_digits (c ∷ cs) ≡ true
-more-digits c cs p q = rw (p, q) refl
-
-onto-digits : (k n : ℕ) (acc : List ℕ) → all_ascii_digits acc ≡ true → all_ascii_digits (digits_onto k 10 false n acc) ≡ true
-onto-digits zero n acc h = h
-onto-digits (suc k) n acc h =
-    let more : all_ascii_digits (digit_glyph false (n % 10) ∷ acc) ≡ true = more-digits (digit_glyph false (n % 10)) acc (glyph-digit (n % 10) (mod-ten n)) h in
-    let rest = onto-digits k (n / 10) (digit_glyph false (n % 10) ∷ acc) more in
-    elim (n / 10 == 0) as (λ b. all_ascii_digits (cond b (digit_glyph false (n % 10) ∷ acc) (digits_onto k 10 false (n / 10) (digit_glyph false (n % 10) ∷ acc))) ≡ true) [ true ↦ more | false ↦ rest ]
-
--- a number of any size is written in digits
-pub decimal-digits : (n : ℕ) → all_ascii_digits (decimal n) ≡ true
-unfolding digits
-decimal-digits n = onto-digits 64 n [] refl
-
-numeral-from : (ds : List ℕ) → 0 < length ds → all_ascii_digits ds ≡ true → is_numeral ds ≡ true
-numeral-from [] p h = absurd (omega arith)
-numeral-from (c ∷ cs) p h = h
-
 small : (n : ℕ) → n < 2 ^ 127 → n < 10 ^ 64
 small n h = omega arith
 
-decimal-numeral : (n : ℕ) → n < 10 ^ 64 → is_numeral (decimal n) ≡ true
-decimal-numeral n h = let is = decimal_is_IsNumeral_wide n h in numeral-from (decimal n) is.0.0 (own.from (decimal n) is.0.1)
-
-decimal-number : (n : ℕ) → n < 10 ^ 64 → number_of_digits (decimal n) ≡ n
-decimal-number n h = let is = decimal_is_IsNumeral_wide n h in own.same (decimal n) is.0.1 ∙ is.1
-
 numeral-decimal : (n : ℕ) → n < 10 ^ 64 → numeral_of (decimal n) ≡ Some n
-numeral-decimal n h = rw (decimal-numeral n h, decimal-number n h) refl
+numeral-decimal n h = rw (is_numeral-decimal n h, number_of_digits-decimal n h) refl
 
 no-minus : (c : ℕ) (rest : Bool) → (is_ascii_digit c && rest) ≡ true → (c == 45) ≡ false
 no-minus c rest h = grind (arith, nat_tests)
@@ -82,14 +46,14 @@ below : (n : ℕ) → IsTrue (nat_lt n (2 ^ 127)) → n < 10 ^ 64
 below n h = small n (grind arith)
 
 whole-decimal : (z : ℤ) → IsTrue (in_range z) → whole_of (signed_decimal z) ≡ Some z
-whole-decimal (pos n) h = whole-digits (decimal n) (decimal-numeral n (below n h)) ∙ ap (option_map pos) (numeral-decimal n (below n h))
+whole-decimal (pos n) h = whole-digits (decimal n) (is_numeral-decimal n (below n h)) ∙ ap (option_map pos) (numeral-decimal n (below n h))
 whole-decimal (negsuc n) h = ap (option_map (λ m. neg_ℤ (pos m))) (numeral-decimal (suc n) (below (suc n) h))
 
 numeral-fits : (n : ℕ) → IsTrue (nat_lt n (2 ^ 127)) → IsTrue (numeral_fits (decimal n))
-numeral-fits n h = subst (λ m. IsTrue (nat_lt m (2 ^ 127))) (sym (decimal-number n (below n h))) h
+numeral-fits n h = subst (λ m. IsTrue (nat_lt m (2 ^ 127))) (sym (number_of_digits-decimal n (below n h))) h
 
 whole-fits : (z : ℤ) → IsTrue (in_range z) → IsTrue (whole_fits (signed_decimal z))
-whole-fits (pos n) h = subst IsTrue (sym (fits-digits (decimal n) (decimal-numeral n (below n h)))) (numeral-fits n h)
+whole-fits (pos n) h = subst IsTrue (sym (fits-digits (decimal n) (is_numeral-decimal n (below n h)))) (numeral-fits n h)
 whole-fits (negsuc n) h = numeral-fits (suc n) h
 
 -- no `/` stands in a number
@@ -113,9 +77,16 @@ front-digits (c ∷ cs) rest h =
     let later = front-digits cs rest (second-true (is_ascii_digit c) (all_ascii_digits cs) h) in
     rw (no-slash c (first-true (is_ascii_digit c) (all_ascii_digits cs) h)) (omega (arith, later))
 
-front-signed : (z : ℤ) (rest : List ℕ) → front (signed_decimal z ++ rest) ≡ length (signed_decimal z) + front rest
-front-signed (pos n) rest = front-digits (decimal n) rest (decimal-digits n)
-front-signed (negsuc n) rest = let later = front-digits (decimal (suc n)) rest (decimal-digits (suc n)) in omega (arith, later)
+all-digits : (ds : List ℕ) → is_numeral ds ≡ true → all_ascii_digits ds ≡ true
+all-digits [] h = refl
+all-digits (c ∷ cs) h = h
+
+front-decimal : (n : ℕ) (rest : List ℕ) → IsTrue (nat_lt n (2 ^ 127)) → front (decimal n ++ rest) ≡ length (decimal n) + front rest
+front-decimal n rest h = front-digits (decimal n) rest (all-digits (decimal n) (is_numeral-decimal n (below n h)))
+
+front-signed : (z : ℤ) (rest : List ℕ) → IsTrue (in_range z) → front (signed_decimal z ++ rest) ≡ length (signed_decimal z) + front rest
+front-signed (pos n) rest h = front-decimal n rest h
+front-signed (negsuc n) rest h = let later = front-decimal (suc n) rest h in omega (arith, later)
 
 position-from : (text : List ℕ) (n : ℕ) → front text ≡ n → n < length text → slash_in text ≡ Some n
 position-from text n e h = grind (arith, nat_tests)
@@ -123,17 +94,17 @@ position-from text n e h = grind (arith, nat_tests)
 position-none : (text : List ℕ) → front text ≡ length text → slash_in text ≡ None
 position-none text e = grind (arith, nat_tests)
 
-slash-behind : (z : ℤ) (rest : List ℕ) → slash_in (signed_decimal z ++ (47 ∷ rest)) ≡ Some (length (signed_decimal z))
-slash-behind z rest =
+slash-behind : (z : ℤ) (rest : List ℕ) → IsTrue (in_range z) → slash_in (signed_decimal z ++ (47 ∷ rest)) ≡ Some (length (signed_decimal z))
+slash-behind z rest h =
     let text = signed_decimal z ++ (47 ∷ rest) in
-    let at : front text ≡ length (signed_decimal z) = front-signed z (47 ∷ rest) ∙ omega arith in
+    let at : front text ≡ length (signed_decimal z) = front-signed z (47 ∷ rest) h ∙ omega arith in
     let inside : length (signed_decimal z) < length text = omega (arith, length-append (signed_decimal z) (47 ∷ rest)) in
     position-from text (length (signed_decimal z)) at inside
 
-slash-none : (z : ℤ) → slash_in (signed_decimal z) ≡ None
-slash-none z =
+slash-none : (z : ℤ) → IsTrue (in_range z) → slash_in (signed_decimal z) ≡ None
+slash-none z h =
     let whole : signed_decimal z ++ [] ≡ signed_decimal z = append-nil (signed_decimal z) in
-    let at : front (signed_decimal z) ≡ length (signed_decimal z) = ap front (sym whole) ∙ front-signed z [] ∙ omega arith in
+    let at : front (signed_decimal z) ≡ length (signed_decimal z) = ap front (sym whole) ∙ front-signed z [] h ∙ omega arith in
     position-none (signed_decimal z) at
 
 -- reading what was written
@@ -154,7 +125,7 @@ read-whole x h e =
     let text = signed_decimal x.top in
     let top = and-first (in_range x.top) (in_range x.bottom) h in
     let made : spelled_at None text ≡ Some x = ap (λ t. quotient_of t (Some 1)) (whole-decimal x.top top) ∙ quotient-is x 1 (denominator-one x e) in
-    subst (λ s. spelled_at s text ≡ Some x) (sym (slash-none x.top)) made
+    subst (λ s. spelled_at s text ≡ Some x) (sym (slash-none x.top (and-first (in_range x.top) (in_range x.bottom) h))) made
 
 abbrev quotient_text : Fraction → List ℕ
 quotient_text x = signed_decimal x.top ++ (47 ∷ signed_decimal x.bottom)
@@ -174,10 +145,10 @@ read-quotient x h =
     let top_read : whole_of (take (length digits_of_top) text) ≡ Some x.top = ap whole_of before ∙ whole-decimal x.top (and-first (in_range x.top) (in_range x.bottom) h) in
     let bottom_read : numeral_of (drop (suc (length digits_of_top)) text) ≡ Some d = ap numeral_of behind ∙ numeral-decimal d (below d (and-second (in_range x.top) (in_range x.bottom) h)) in
     let made : spelled_at (Some (length digits_of_top)) text ≡ Some x = ap (λ t. quotient_of t (numeral_of (drop (suc (length digits_of_top)) text))) top_read ∙ ap (quotient_of (Some x.top)) bottom_read ∙ quotient-is x d refl in
-    subst (λ s. spelled_at s text ≡ Some x) (sym (slash-behind x.top (signed_decimal x.bottom))) made
+    subst (λ s. spelled_at s text ≡ Some x) (sym (slash-behind x.top (signed_decimal x.bottom) (and-first (in_range x.top) (in_range x.bottom) h))) made
 
 fits-whole : (x : Fraction) → IsTrue (holds x) → IsTrue (fraction_fits (signed_decimal x.top))
-fits-whole x h = subst (λ s. IsTrue (fits_at s (signed_decimal x.top))) (sym (slash-none x.top)) (whole-fits x.top (and-first (in_range x.top) (in_range x.bottom) h))
+fits-whole x h = subst (λ s. IsTrue (fits_at s (signed_decimal x.top))) (sym (slash-none x.top (and-first (in_range x.top) (in_range x.bottom) h))) (whole-fits x.top (and-first (in_range x.top) (in_range x.bottom) h))
 
 fits-quotient : (x : Fraction) → IsTrue (holds x) → IsTrue (fraction_fits (quotient_text x))
 fits-quotient x h =
@@ -188,7 +159,7 @@ fits-quotient x h =
     let before : take (length digits_of_top) text ≡ digits_of_top = take-append_seam digits_of_top (47 ∷ signed_decimal x.bottom) in
     let top = subst (λ t. IsTrue (whole_fits t)) (sym before) (whole-fits x.top (and-first (in_range x.top) (in_range x.bottom) h)) in
     let bottom = subst (λ t. IsTrue (numeral_fits t)) (sym behind) (numeral-fits d (and-second (in_range x.top) (in_range x.bottom) h)) in
-    subst (λ s. IsTrue (fits_at s text)) (sym (slash-behind x.top (signed_decimal x.bottom))) (and-both (whole_fits (take (length digits_of_top) text)) (numeral_fits (drop (suc (length digits_of_top)) text)) top bottom)
+    subst (λ s. IsTrue (fits_at s text)) (sym (slash-behind x.top (signed_decimal x.bottom) (and-first (in_range x.top) (in_range x.bottom) h))) (and-both (whole_fits (take (length digits_of_top) text)) (numeral_fits (drop (suc (length digits_of_top)) text)) top bottom)
 
 -- either text, by a test
 by-test : (P : List ℕ → Type 0) (b : Bool) (s t : List ℕ) → (b ≡ true → P s) → P t → P (cond b s t)
@@ -197,11 +168,8 @@ by-test P false s t p q = q
 
 -- its bytes
 
-digit-byte : (c : ℕ) → is_ascii_digit c ≡ true → IsWeightByte c
-digit-byte c h =
-    let low : 48 ≤ c = grind (arith, nat_tests) in
-    let high : c ≤ 57 = grind (arith, nat_tests) in
-    record { low = omega (arith, low); high = omega (arith, high); not_less = λ e. absurd (omega (arith, e, high)); not_greater = λ e. absurd (omega (arith, e, high)) }
+digit-byte : (d : ℕ) → d < 10 → IsWeightByte (48 + d)
+digit-byte d h = record { low = omega arith; high = omega (arith, h); not_less = λ e. absurd (omega (arith, e, h)); not_greater = λ e. absurd (omega (arith, e, h)) }
 
 slash-byte : IsWeightByte 47
 slash-byte = record { low = omega arith; high = omega arith; not_less = λ e. absurd (omega (arith, e)); not_greater = λ e. absurd (omega (arith, e)) }
@@ -209,13 +177,9 @@ slash-byte = record { low = omega arith; high = omega arith; not_less = λ e. ab
 minus-byte : IsWeightByte 45
 minus-byte = record { low = omega arith; high = omega arith; not_less = λ e. absurd (omega (arith, e)); not_greater = λ e. absurd (omega (arith, e)) }
 
-digits-bytes : (ds : List ℕ) → all_ascii_digits ds ≡ true → All IsWeightByte ds
-digits-bytes [] h = All-nil IsWeightByte
-digits-bytes (c ∷ cs) h = All-cons IsWeightByte c cs (digit-byte c (first-true (is_ascii_digit c) (all_ascii_digits cs) h)) (digits-bytes cs (second-true (is_ascii_digit c) (all_ascii_digits cs) h))
-
 signed-bytes : (z : ℤ) → All IsWeightByte (signed_decimal z)
-signed-bytes (pos n) = digits-bytes (decimal n) (decimal-digits n)
-signed-bytes (negsuc n) = All-cons IsWeightByte 45 (decimal (suc n)) minus-byte (digits-bytes (decimal (suc n)) (decimal-digits (suc n)))
+signed-bytes (pos n) = All-decimal IsWeightByte digit-byte n
+signed-bytes (negsuc n) = All-cons IsWeightByte 45 (decimal (suc n)) minus-byte (All-decimal IsWeightByte digit-byte (suc n))
 
 text-bytes : (x : Fraction) → All IsWeightByte (fraction_text x)
 text-bytes x = by-test (All IsWeightByte) (int_eq x.bottom (pos 1)) (signed_decimal x.top) (quotient_text x) (λ e. signed-bytes x.top) (All-append IsWeightByte (signed_decimal x.top) (47 ∷ signed_decimal x.bottom) (signed-bytes x.top) (All-cons IsWeightByte 47 (signed_decimal x.bottom) slash-byte (signed-bytes x.bottom)))

@@ -1,9 +1,9 @@
 -- The whole numbers as a weight set, for rearrangements.
-use Rattle.std.specs.Prelude.{◌≡◌, ℤ, pos, ◌+ℤ◌, ◌*ℤ◌, true}
+use Rattle.std.specs.Prelude.{ℤ, pos, ◌+ℤ◌, ◌*ℤ◌, true}
 use Rattle.std.specs.Ordering.{int_eq}
-use Rattle.std.proofs.Common.{refl, sym, ap, ◌∙◌, arith}
+use Rattle.std.proofs.Common.{refl, ◌∙◌, arith}
 use Rattle.std.proofs.lemmas.Int.{ints}
-use Rattle.std.proofs.Math.IntN.{*ℤ_comm, +ℤ_comm, +ℤ_assoc, +ℤ_idl, zero-*ℤ}
+use Rattle.std.proofs.Math.IntN.{*ℤ_comm, +ℤ_comm, +ℤ_assoc, zero-*ℤ}
 use Rattle.vc_num.proofs.Whole.{*ℤ_assoc, *ℤ-+ℤ}
 use Rattle.vc_model.specs.WeightSet.{WeightSet, SemiringLaws}
 

@@ -1,4 +1,4 @@
-use Rattle.std.proofs.Common.{◌≡◌, take, drop}
+use Rattle.std.proofs.Common.{◌≡◌, drop}
 use Rattle.vc_rat.specs.Splits.{row_factor}
 use Rattle.vc_rat.proofs.splits.first_other.Given as goal
 

@@ -1,4 +1,4 @@
-use Rattle.std.proofs.Common.{◌<◌, length, rules, arith}
+use Rattle.std.proofs.Common.{◌<◌, length, rules}
 use Rattle.vc_rat.proofs.Multiplying.{at-start, entry-in, at-more, at-failure, failed}
 use Rattle.vc_rat.proofs.splits.multiply.Goals as goal
 

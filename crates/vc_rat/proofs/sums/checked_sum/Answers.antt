@@ -1,4 +1,4 @@
-use Rattle.std.proofs.Common.{ℤ, FitsSigned, rules, ◌∙◌, sym}
+use Rattle.std.proofs.Common.{FitsSigned, rules, ◌∙◌}
 use Rattle.std.proofs.lemmas.Int.{to_z-of_z}
 use mir.Syntax.{w128}
 use Rattle.vc_rat.proofs.Parted.{found-at, sum-positive, sum-some, sum-none}

@@ -1,4 +1,4 @@
-use Rattle.std.proofs.Common.{◌≡◌, ◌<◌, ◌*ℤ◌, ℕ, pos, rules, arith, FitsSigned}
+use Rattle.std.proofs.Common.{◌<◌, rules, FitsSigned}
 use Rattle.std.proofs.lemmas.Int.{to_z-of_z}
 use mir.Syntax.{w128}
 use Rattle.vc_rat.proofs.Readings.{quotient-read-from}

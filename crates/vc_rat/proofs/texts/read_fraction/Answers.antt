@@ -1,4 +1,4 @@
-use Rattle.std.proofs.Common.{◌≡◌, ℕ, suc, List, take, drop, length, refl, rules, arith, ◌+◌, ◌-◌, ◌∙◌, sym}
+use Rattle.std.proofs.Common.{◌≡◌, ℕ, suc, List, take, drop, length, refl, arith, ◌+◌, ◌-◌, ◌∙◌, sym}
 use Rattle.std.proofs.lemmas.Grind.{common_steps}
 use Rattle.vc_rat.proofs.Readings.{read-some, read-none}
 use Rattle.vc_rat.proofs.texts.read_fraction.Goals as goal

@@ -1,7 +1,6 @@
-use Rattle.std.proofs.Common.{◌≡◌, unsigned_abs, ap, rules, FitsSigned, ◌∙◌}
+use Rattle.std.proofs.Common.{unsigned_abs, ap, rules, FitsSigned, ◌∙◌}
 use Rattle.std.proofs.lemmas.Int.{to_z-of_z}
 use mir.Syntax.{w128}
-use Rattle.vc_rat.specs.Fields.{signed}
 use Rattle.vc_rat.proofs.Inverses.{inverse-lowest}
 use Rattle.vc_rat.proofs.field.QField.inverse.Goals as goal
 

@@ -1,4 +1,4 @@
-use Rattle.std.proofs.Common.{FitsSigned, rules}
+use Rattle.std.proofs.Common.{FitsSigned}
 use mir.Syntax.{w128}
 use Rattle.vc_rat.proofs.Division.{divisor-positive, divisor-in, quotients-lowest, quotients-same}
 use Rattle.vc_rat.proofs.fraction.Fraction.reduced.Goals as goal

@@ -1,4 +1,4 @@
-use Rattle.std.proofs.Common.{◌≡◌, ◌-ℤ◌, unsigned_abs, ap, rules, refl, FitsSigned, ◌∙◌, sym}
+use Rattle.std.proofs.Common.{◌-ℤ◌, unsigned_abs, ap, rules, refl, FitsSigned, ◌∙◌, sym}
 use Rattle.std.proofs.lemmas.Int.{to_z-of_z}
 use mir.Syntax.{w128}
 use Rattle.vc_rat.proofs.Stars.{star-is, below-one}
