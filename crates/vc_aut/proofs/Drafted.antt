@@ -1,9 +1,8 @@
 -- What the builder adds keeps what is true of each draft.
-use Rattle.std.proofs.Common.{◌≡◌, ◌∙◌, sym, ap, subst, refl, ℕ, suc, ◌+◌, ◌≤◌, ◌<◌, Bool, true, false, List, [], ◌∷◌, map, length, cond, None, Some, Option, Less, Equal, Greater, arith, IsTrue, All}
+use Rattle.std.proofs.Common.{◌≡◌, refl, ℕ, suc, ◌≤◌, ◌<◌, Bool, true, false, List, [], ◌∷◌, map, length, cond, None, Some, Option, Less, Equal, Greater, arith, IsTrue, All}
 use Rattle.std.specs.Prelude.{nat_lt, not, ◌≢◌}
 use Rattle.std.specs.List.{filter}
-use Rattle.std.specs.List.{AllByRecursion}
-use Rattle.std.specs.Ordering.{match_ordering, is_eq}
+use Rattle.std.specs.Ordering.{match_ordering}
 use Rattle.std.specs.Cmp.{IsTotalOrder}
 use Rattle.std.specs.declared.cmp.Ordering.{Ordering}
 use Rattle.std.proofs.lemmas.List.Elements.{All-nil, All-cons, All-head, All-tail, All-filter, All-weaker, filter_passes}
@@ -29,18 +28,18 @@ use Rattle.vc_aut.proofs.Inserted.{in_order-none, in_order-inserted, length-inse
 module _ {V : Type 0} (R : WeightSet V) where
   pub empty_is_draft : (most : ℕ) (sets : List TapeSet) → most ≤ 1000000 → IsDraft R (empty_draft most sets)
   empty_is_draft most sets h = record {
-      drawn = record {
-        initial = refl;
-        final = refl;
-        initial_in = All-nil (λ a. IsTrue (R.in_range a));
-        final_in = All-nil (λ a. IsTrue (R.in_range a));
-        moves = All-nil (IsMove R sets 0);
-        order = in_order-none [] refl;
-      };
-      most = h;
-      states = omega arith;
-      transitions = omega arith;
-    }
+    drawn = record {
+      initial = refl;
+      final = refl;
+      initial_in = All-nil (λ a. IsTrue (R.in_range a));
+      final_in = All-nil (λ a. IsTrue (R.in_range a));
+      moves = All-nil (IsMove R sets 0);
+      order = in_order-none [] refl;
+    };
+    most = h;
+    states = omega arith;
+    transitions = omega arith;
+  }
 
   module _ (ranges : RangeLaws R) (sets : List TapeSet) (n : ℕ) where
     move_sum : (u t : Transition V) → IsMove R sets n u → IsMove R sets n t → R.fits_plus u.weight t.weight ≡ true → IsMove R sets n (record u { weight = R.plus u.weight t.weight })
@@ -85,18 +84,18 @@ module _ {V : Type 0} (R : WeightSet V) where
     pub with_transition_is_draft : RangeLaws R → (d : Draft V) (t : Transition V) → IsDraft R d → IsMove R d.sets d.automaton.states t
         → transition_refusal R d.automaton.transitions t ≡ None → IsDraft R (with_transition R d t)
     with_transition_is_draft ranges d t h m free = record {
-        drawn = record {
-          initial = h.drawn.initial;
-          final = h.drawn.final;
-          initial_in = h.drawn.initial_in;
-          final_in = h.drawn.final_in;
-          moves = moves-inserted ranges d.sets d.automaton.states d.automaton.transitions t h.drawn.moves m (λ w s. fits_unrefused (length d.automaton.transitions) t.weight w (standing d.automaton.transitions t) free s);
-          order = in_order-inserted R total d.automaton.transitions t h.drawn.order;
-        };
-        most = h.most;
-        states = h.states;
-        transitions = count_by d.automaton.transitions t h.drawn.order h.transitions (standing d.automaton.transitions t) refl free;
-      }
+      drawn = record {
+        initial = h.drawn.initial;
+        final = h.drawn.final;
+        initial_in = h.drawn.initial_in;
+        final_in = h.drawn.final_in;
+        moves = moves-inserted ranges d.sets d.automaton.states d.automaton.transitions t h.drawn.moves m (λ w s. fits_unrefused (length d.automaton.transitions) t.weight w (standing d.automaton.transitions t) free s);
+        order = in_order-inserted R total d.automaton.transitions t h.drawn.order;
+      };
+      most = h.most;
+      states = h.states;
+      transitions = count_by d.automaton.transitions t h.drawn.order h.transitions (standing d.automaton.transitions t) refl free;
+    }
 
 -- the weights of entries that stand for moves are in range
 pub weights-in_range : {B V : Type 0} (R : WeightSet V) (parts : B → Word) (sets : List TapeSet) (n : ℕ) (es : List ((ℕ × B × ℕ) × V)) → All (IsMove R sets n) (map (entry_transition parts) es) → All (λ e. IsTrue (R.in_range e.1)) es

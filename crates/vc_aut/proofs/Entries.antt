@@ -1,6 +1,5 @@
 -- A map by source, label and target adds up transitions as the definition says.
-use Rattle.std.proofs.Common.{◌≡◌, ◌∙◌, sym, ap, subst, refl, ℕ, Bool, true, false, List, [], ◌∷◌, map, length, cond, None, Some, nat_cmp, Less, Equal, Greater, arith, Option, All}
-use Rattle.std.specs.Prelude.{IsTrue}
+use Rattle.std.proofs.Common.{◌≡◌, ◌∙◌, sym, ap, subst, refl, ℕ, Bool, List, [], ◌∷◌, map, None, Some, nat_cmp, Less, Equal, Greater, Option, All}
 use Rattle.std.specs.Option.{IfSome}
 use Rattle.std.specs.Ordering.{ordering_then, match_ordering, is_eq}
 use Rattle.std.specs.declared.cmp.Ordering.{Ordering}
@@ -45,8 +44,8 @@ module _ {B V : Type 0} (labels : B → B → Ordering) (parts : B → Word) (R 
       → (o : Ordering) → key_order labels k e.0 ≡ o
       → those (match_ordering o ((k, v) ∷ e ∷ es) ((e.0, v) ∷ es) (e ∷ insert_entry (key_order labels) es k v))
       ≡ match_ordering o (entry_transition parts (k, v) ∷ entry_transition parts e ∷ those es)
-          (record (entry_transition parts e) { weight = R.plus e.1 v } ∷ those es)
-          (entry_transition parts e ∷ insert_transition R (those es) (entry_transition parts (k, v)))
+      (record (entry_transition parts e) { weight = R.plus e.1 v } ∷ those es)
+      (entry_transition parts e ∷ insert_transition R (those es) (entry_transition parts (k, v)))
   new_step e es k v h ih Less q = refl
   new_step e es k v h ih Equal q = let f : lookup (is_at (key_order labels k)) (e ∷ es) ≡ Some e.1 = lookup_head (is_at (key_order labels k)) e es (ap is_eq q) in cc
   new_step e es k v h ih Greater q = ap (λ t. entry_transition parts e ∷ t) (ih (sym (lookup_tail (is_at (key_order labels k)) e es (ap is_eq q)) ∙ h))
@@ -57,7 +56,7 @@ module _ {B V : Type 0} (labels : B → B → Ordering) (parts : B → Word) (R 
   insert_new [] k v h = refl
   insert_new (e ∷ es) k v h =
       subst (λ o. those (insert_entry (key_order labels) (e ∷ es) k v)
-          ≡ match_ordering o (entry_transition parts (k, v) ∷ those (e ∷ es)) (record (entry_transition parts e) { weight = R.plus e.1 v } ∷ those es) (entry_transition parts e ∷ insert_transition R (those es) (entry_transition parts (k, v))))
+      ≡ match_ordering o (entry_transition parts (k, v) ∷ those (e ∷ es)) (record (entry_transition parts e) { weight = R.plus e.1 v } ∷ those es) (entry_transition parts e ∷ insert_transition R (those es) (entry_transition parts (k, v))))
       (agree k v e) (new_step e es k v h (insert_new es k v) (key_order labels k e.0) refl)
 
   old_step : IsTotalOrder labels → (e : (ℕ × B × ℕ) × V) (es : List ((ℕ × B × ℕ) × V)) (k : ℕ × B × ℕ) (v w old : V)
@@ -67,8 +66,8 @@ module _ {B V : Type 0} (labels : B → B → Ordering) (parts : B → Word) (R 
       → (o : Ordering) → key_order labels k e.0 ≡ o
       → those (match_ordering o ((k, v) ∷ e ∷ es) ((e.0, v) ∷ es) (e ∷ insert_entry (key_order labels) es k v))
       ≡ match_ordering o (entry_transition parts (k, w) ∷ entry_transition parts e ∷ those es)
-          (record (entry_transition parts e) { weight = R.plus e.1 w } ∷ those es)
-          (entry_transition parts e ∷ insert_transition R (those es) (entry_transition parts (k, w)))
+      (record (entry_transition parts e) { weight = R.plus e.1 w } ∷ those es)
+      (entry_transition parts e ∷ insert_transition R (those es) (entry_transition parts (k, w)))
   old_step t e es k v w old s h a ih Less q =
       let f : lookup (is_at (key_order labels k)) (e ∷ es) ≡ None = lookup-none (is_at (key_order labels k)) (e ∷ es) (none_below_head (key_total t) k e es s q) in cc
   old_step t e es k v w old s h a ih Equal q =
@@ -86,7 +85,7 @@ module _ {B V : Type 0} (labels : B → B → Ordering) (parts : B → Word) (R 
   insert_old t [] k v w old s h a = cc
   insert_old t (e ∷ es) k v w old s h a =
       subst (λ o. those (insert_entry (key_order labels) (e ∷ es) k v)
-          ≡ match_ordering o (entry_transition parts (k, w) ∷ those (e ∷ es)) (record (entry_transition parts e) { weight = R.plus e.1 w } ∷ those es) (entry_transition parts e ∷ insert_transition R (those es) (entry_transition parts (k, w))))
+      ≡ match_ordering o (entry_transition parts (k, w) ∷ those (e ∷ es)) (record (entry_transition parts e) { weight = R.plus e.1 w } ∷ those es) (entry_transition parts e ∷ insert_transition R (those es) (entry_transition parts (k, w))))
       (agree k w e) (old_step t e es k v w old s h a (λ g. insert_old t es k v w old (sorted_tail (key_order labels) e.0 (keys_of es) s) g a) (key_order labels k e.0) refl)
 
 -- what a look-up finds is in range

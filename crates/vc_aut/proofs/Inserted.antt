@@ -1,20 +1,15 @@
 -- A transition that is inserted keeps the order.
-use Rattle.std.proofs.Common.{◌≡◌, ◌∙◌, sym, ap, subst, refl, ℕ, suc, ◌≤◌, Bool, true, false, List, [], ◌∷◌, map, length, cond, None, Some, Option, Less, Equal, Greater, arith, IsTrue, inl, inr}
-use Rattle.std.specs.Prelude.{◌↔◌, ◌⊎◌}
+use Rattle.std.proofs.Common.{◌≡◌, ◌∙◌, ap, refl, suc, ◌≤◌, List, [], ◌∷◌, length, None, Some, Less, Equal, Greater, arith}
 use Rattle.std.specs.List.{AllByRecursion}
 use Rattle.std.specs.List.Sorted.{IsStrictlySortedBy}
-use Rattle.std.specs.Ordering.{match_ordering, is_eq, ordering_reverse}
+use Rattle.std.specs.Ordering.{match_ordering, ordering_reverse}
 use Rattle.std.specs.Cmp.{IsTotalOrder}
 use Rattle.std.specs.declared.cmp.Ordering.{Ordering}
 use Rattle.std.proofs.lemmas.Map.Keys.{sorted_head, sorted_tail}
-use Rattle.vc_label.specs.Order.{word_order}
-use Rattle.vc_model.specs.Automata.{Transition, triple}
-use Rattle.vc_model.specs.Lists.{In}
+use Rattle.vc_model.specs.Automata.{Transition}
 use Rattle.vc_model.specs.WeightSet.{WeightSet}
-use Rattle.vc_model.specs.Words.{Word}
 use Rattle.vc_aut.specs.Order.{triple_order, AreInOrder}
 use Rattle.vc_aut.specs.Sums.{insert_transition, standing}
-use Rattle.vc_aut.proofs.Order.{triple_order_total, same_triples}
 
 module _ {V : Type 0} where
   pub in_order-none : (ts : List (Transition V)) → ts ≡ [] → AreInOrder ts

@@ -5,3 +5,5 @@ pub mod Entries
 pub mod Refusals
 pub mod Inserted
 pub mod Drafted
+pub mod Added
+pub mod States

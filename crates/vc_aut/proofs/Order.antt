@@ -1,8 +1,7 @@
 -- The order of transitions is that of their triples.
-use Rattle.std.proofs.Common.{◌≡◌, ◌∙◌, sym, ap, refl, ℕ, ◌<◌, ◌≤◌, List, [], ◌∷◌, map, nat_cmp, Less, Equal, Greater, arith, inl, inr}
+use Rattle.std.proofs.Common.{◌≡◌, ap, refl, ℕ, List, [], ◌∷◌, map, nat_cmp, Less, Equal, Greater, arith, inl, inr}
 use Rattle.std.specs.Prelude.{◌↔◌}
 use Rattle.std.specs.List.{AllByRecursion}
-use Rattle.std.specs.List.Sorted.{IsStrictlySortedBy}
 use Rattle.std.specs.Ordering.{ordering_then}
 use Rattle.std.specs.Cmp.{IsTotalOrder, then_total, on_total, nat_cmp_total}
 use Rattle.std.specs.declared.cmp.Ordering.{Ordering}
@@ -53,7 +52,8 @@ module _ (total : IsTotalOrder word_order) (equal : (v w : Word) → (word_order
         let to : t.to ≡ u.to = ap (λ d. d.2) h in
         rw (from, label, to, nat_cmp-self u.from, nat_cmp-self u.to, (equal u.label u.label).1 refl) refl
 
-    not_after : (t : Transition V) (ts : List (Transition V)) → AllByRecursion (λ u. triple_order t u ≡ Less) ts → In (triple t) (map triple ts) → ⊥
+    -- a transition that comes before others has none of their triples
+    pub not_after : (t : Transition V) (ts : List (Transition V)) → AllByRecursion (λ u. triple_order t u ≡ Less) ts → In (triple t) (map triple ts) → ⊥
     not_after t [] h i = i
     not_after t (u ∷ us) h i =
         elim i [

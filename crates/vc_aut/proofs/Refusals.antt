@@ -1,12 +1,11 @@
 -- When a transition is refused.
-use Rattle.std.proofs.Common.{◌≡◌, ◌∙◌, sym, ap, refl, ℕ, ◌<◌, ◌≤◌, Bool, true, false, None, Some, Ok, Err, Option, arith, cond}
+use Rattle.std.proofs.Common.{◌≡◌, refl, ℕ, ◌<◌, ◌≤◌, Bool, true, false, None, Some, Ok, Err, Option, arith, cond}
 use Rattle.std.specs.Prelude.{nat_lt, Result}
 use Rattle.std.proofs.lemmas.Grind.{common_steps}
 use Rattle.vc_model.specs.WeightSet.{WeightSet}
 use Rattle.vc_ring.specs.Steps.{added}
 use Rattle.vc_ring.specs.declared.faults.Overflow.{Overflow}
 use Rattle.vc_ring.specs.declared.faults.Overflow.TheVariants.{Add}
-use Rattle.vc_ring.specs.declared.faults.MakeFault.{MakeFault}
 use Rattle.vc_ring.specs.declared.faults.MakeFault.TheVariants.{Overflow as Unfit, Limit as PastLimit}
 use Rattle.vc_ring.specs.declared.faults.Measure.TheVariants.{Transitions}
 use Rattle.vc_aut.specs.Refusals.{weight_refusal}

@@ -4,8 +4,6 @@ use Rattle.std.proofs.Math.ListN.{get_or-append}
 use Rattle.std.proofs.Math.Seq.{get_or-append_seam}
 use Rattle.std.specs.Prelude.{nat_lt, filter}
 use Rattle.std.specs.List.{AllByRecursion}
-use Rattle.std.specs.List.Sorted.{IsStrictlySortedBy}
-use Rattle.std.specs.Ordering.{ordering_then}
 use Rattle.std.specs.List.{take-map, drop-map}
 use Rattle.std.proofs.lemmas.List.{length-map}
 use Rattle.std.specs.declared.cmp.Ordering.{Ordering}
@@ -147,14 +145,14 @@ module _ {V : Type 0} where
       let below : (f x).from < s = p 0 x (omega arith) in
       let b : nat_lt (f x).from s ≡ true = grind (arith, common_steps) in
       rw b (ap (λ n. suc n)
-        (counted f s at xs (sorted_tail triple_order (f x) (map f xs) o) (omega arith)
-          (λ k d h. p (suc k) d (omega arith)) (λ h d. e (omega arith) d)))
+      (counted f s at xs (sorted_tail triple_order (f x) (map f xs) o) (omega arith)
+      (λ k d h. p (suc k) d (omega arith)) (λ h d. e (omega arith) d)))
 
   -- one more start
   pub starts-push : (ts : List (Transition V)) (old new : List ℕ) (n at : ℕ) → new ≡ old ++ at ∷ [] → length old ≡ n → ((s d : ℕ) → s < n → get_or old s d ≡ count_below ts s)
       → count_below ts n ≡ at → (length new ≡ n + 1) × ((s d : ℕ) → s < n + 1 → get_or new s d ≡ count_below ts s)
   starts-push ts old new n at is len places here =
       let places_more = below_more (λ s. (d : ℕ) → get_or new s d ≡ count_below ts s) n
-        (λ s h d. let l : s < length old = omega (arith, len) in rw (is, get_or-append old (at ∷ []) d s l) (places s d h))
-        (λ d. rw (is, ← len, get_or-append_seam old at [] d) (sym (rw (← len) at here))) in
+      (λ s h d. let l : s < length old = omega (arith, len) in rw (is, get_or-append old (at ∷ []) d s l) (places s d h))
+      (λ d. rw (is, ← len, get_or-append_seam old at [] d) (sym (rw (← len) at here))) in
       (rw is (omega (arith, length-append old (at ∷ []), len)), λ s d h. places_more s h d)

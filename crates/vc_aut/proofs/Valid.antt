@@ -1,5 +1,5 @@
 -- What the facts that the code keeps of an automaton say in the words of the definition.
-use Rattle.std.proofs.Common.{◌≡◌, ◌≢◌, ◌∙◌, sym, ap, refl, ℕ, suc, List, [], ◌∷◌, length, All, inl, inr, subst}
+use Rattle.std.proofs.Common.{◌≡◌, ◌≢◌, sym, ap, refl, suc, List, [], ◌∷◌, length, All, inl, inr, subst}
 use Rattle.std.specs.Prelude.{◌↔◌}
 use Rattle.std.specs.Cmp.{IsTotalOrder}
 use Rattle.std.specs.declared.cmp.Ordering.TheVariants.{Equal}
@@ -7,7 +7,7 @@ use Rattle.std.proofs.lemmas.List.Elements.{All-head, All-tail}
 use Rattle.vc_label.specs.Order.{word_order}
 use Rattle.vc_label.specs.Sets.{IsOverSets}
 use Rattle.vc_label.specs.declared.tape_set.TapeSet.{TapeSet}
-use Rattle.vc_model.specs.Automata.{Transition, Automaton, IsAutomaton}
+use Rattle.vc_model.specs.Automata.{Transition, IsAutomaton}
 use Rattle.vc_model.specs.Lists.{In}
 use Rattle.vc_model.specs.WeightSet.{WeightSet}
 use Rattle.vc_model.specs.Words.{Word}

@@ -2,7 +2,6 @@
 use Rattle.std.specs.Prelude.{◌≡◌, nat_lt, ℕ, List, length, Option, None, Some, Result, Ok, Err, if◌then◌else◌}
 use Rattle.vc_model.specs.Automata.{Transition}
 use Rattle.vc_model.specs.WeightSet.{WeightSet}
-use Rattle.vc_ring.specs.declared.faults.Limit.{Limit}
 use Rattle.vc_ring.specs.declared.faults.MakeFault.{MakeFault}
 use Rattle.vc_ring.specs.declared.faults.MakeFault.TheVariants.{Overflow, Limit as PastLimit, Memory}
 use Rattle.vc_ring.specs.declared.faults.Measure.TheVariants.{States, Transitions}

@@ -1,5 +1,5 @@
 -- What the fields of an automaton stand for.
-use Rattle.std.specs.Prelude.{◌≡◌, nat_lt, ℕ, ◌≤◌, ◌+◌, List, length, map, filter, slice_index_or}
+use Rattle.std.specs.Prelude.{◌≡◌, nat_lt, ℕ, ◌≤◌, ◌+◌, List, length, filter, slice_index_or}
 use Rattle.vc_aut.specs.declared.transition.Transition.{Transition as Stored}
 use Rattle.vc_model.specs.Automata.{Automaton, Transition}
 use Rattle.vc_model.specs.Words.{Word}

@@ -14,7 +14,7 @@ use vc_ring::{Limit, MakeFault, Measure, Overflow, Semiring};
 pub struct Builder<L: LabelSet, S: Semiring> {
     alloc: Global,
     most_states: u64,
-    labels: L,
+    pub(crate) labels: L,
     initial_weights: Vec<S::Value>,
     final_weights: Vec<S::Value>,
     transitions: Moves<L, S>,
@@ -138,7 +138,14 @@ impl<L: LabelSet, S: Semiring> Builder<L, S> {
     pub fn finish(self) -> Result<Automaton<L, S>, AllocError>
         ensures { IfOk result (λ a. a ≡ finished S.set S.Value.eq self) }
     {
-        let Builder { alloc, most_states: _, labels, initial_weights, final_weights, transitions } = self;
+        let Builder {
+            alloc,
+            most_states: _,
+            labels,
+            initial_weights,
+            final_weights,
+            transitions,
+        } = self;
         let transitions = moves::finish::<L, S>(alloc, transitions)?;
         Automaton::new(alloc, labels, initial_weights, final_weights, transitions)
     }

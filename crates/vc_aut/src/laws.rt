@@ -1,9 +1,16 @@
-ghost use Rattle.std.specs.Prelude.{◌≡◌, length};
-ghost use Rattle.vc_model.specs.Automata.{IsAutomaton, Transition};
-ghost use Rattle.vc_model.specs.Lists.{In};
+ghost use Rattle.std.specs.Prelude.{◌≡◌, ◌↔◌, ◌⊎◌, ◌<◌, ◌==◌, ℕ, Bool, List, [], length, map, Some, if◌then◌else◌};
+ghost use Rattle.vc_aut.specs.Drafts.{Draft, IsDraft, with_final, with_initial, with_state, without_zeros};
+ghost use Rattle.vc_aut.specs.Order.{AreInOrder};
+ghost use Rattle.vc_aut.specs.Sums.{insert_all, insert_transition, standing};
 ghost use Rattle.vc_aut.specs.Validity.{IsLabelled, IsMove};
+ghost use Rattle.vc_model.specs.Automata.{IsAutomaton, Transition, final_weight, initial_weight, triple};
+ghost use Rattle.vc_model.specs.Gathered.{IsGathered, same_triple, weight_at};
+ghost use Rattle.vc_model.specs.Lists.{In, IsEqualityTest};
+ghost use Rattle.vc_model.specs.WeightSet.{WeightSet, SemiringLaws};
+ghost use Rattle.vc_model.specs.Words.{Word};
 
 use crate::automaton::Automaton;
+use crate::builder::Builder;
 use vc_label::{LabelSet, words_are_ordered};
 use vc_ring::Semiring;
 
@@ -18,3 +25,62 @@ pub fn automata_are_valid<L: LabelSet, S: Semiring>(aut: &Automaton<L, S>)
     let _ = &aut.labels;
     words_are_ordered();
 }
+
+/// What is true of each builder: its labels are over its sets, its weights are in range, its
+/// transitions are in order, and it has at most so many states and transitions.
+pub fn drafts_are_valid<L: LabelSet, S: Semiring>(builder: &Builder<L, S>)
+    ensures { IsDraft S.set builder.now }
+{
+    let _ = &builder.labels;
+}
+
+/// What a transition does that is inserted: its weight is added at its triple, the triples are the
+/// old ones and its own, and the order is kept. In order, at most one weight stands at a triple.
+pub fn transitions_are_added<V>()
+    ensures weight { (R : WeightSet V) → SemiringLaws R → (ts : List (Transition V))
+        (t : Transition V) (d : ℕ × Word × ℕ) → weight_at R (insert_transition R ts t) d
+        ≡ R.plus (weight_at R ts d) (if same_triple (triple t) d then t.weight else R.zero) }
+    ensures triples { (R : WeightSet V) (ts : List (Transition V)) (t : Transition V)
+        (d : ℕ × Word × ℕ) → In d (map triple (insert_transition R ts t))
+        ↔ ((d ≡ triple t) ⊎ In d (map triple ts)) }
+    ensures order { (R : WeightSet V) (ts : List (Transition V)) (t : Transition V)
+        → AreInOrder ts → AreInOrder (insert_transition R ts t) }
+    ensures standing { (ts : List (Transition V)) (t : Transition V) (w : V) → AreInOrder ts
+        → (standing ts t ≡ Some w) ↔ In (record t { weight = w }) ts }
+{
+    words_are_ordered();
+}
+
+/// The automaton is the sum of what was added: at each source, label and target there stands the
+/// sum of the weights that were added there, and what is left without the zero sums gathers all
+/// that was added.
+pub fn drafts_are_sums<V>()
+    ensures weight { (R : WeightSet V) → SemiringLaws R → (added : List (Transition V))
+        (d : ℕ × Word × ℕ) → weight_at R (insert_all R [] added) d ≡ weight_at R added d }
+    ensures gathered { (R : WeightSet V) → SemiringLaws R → (same : V → V → Bool)
+        → IsEqualityTest same → (added : List (Transition V))
+        → IsGathered R added (without_zeros R same (insert_all R [] added)) }
+    ensures order { (R : WeightSet V) (added : List (Transition V))
+        → AreInOrder (insert_all R [] added) }
+{
+    words_are_ordered();
+}
+
+/// What a weight does that is added at a state: there it is added, and the other states keep
+/// theirs. A state more has zero weights, as each number has that is no state.
+pub fn states_are_added<V>()
+    ensures initial_weights { (R : WeightSet V) (d : Draft V) (s p : ℕ) (w : V)
+        → s < length d.automaton.initial
+        → initial_weight R (with_initial R d s w).automaton p
+        ≡ (if p == s then R.plus (initial_weight R d.automaton p) w
+        else initial_weight R d.automaton p) }
+    ensures final_weights { (R : WeightSet V) (d : Draft V) (s p : ℕ) (w : V)
+        → s < length d.automaton.final
+        → final_weight R (with_final R d s w).automaton p
+        ≡ (if p == s then R.plus (final_weight R d.automaton p) w
+        else final_weight R d.automaton p) }
+    ensures state_initial { (R : WeightSet V) (d : Draft V) (p : ℕ)
+        → initial_weight R (with_state R d).automaton p ≡ initial_weight R d.automaton p }
+    ensures state_final { (R : WeightSet V) (d : Draft V) (p : ℕ)
+        → final_weight R (with_state R d).automaton p ≡ final_weight R d.automaton p }
+{}

@@ -10,5 +10,7 @@ mod transition;
 
 pub use automaton::Automaton;
 pub use builder::Builder;
-pub use laws::automata_are_valid;
+pub use laws::{
+    automata_are_valid, drafts_are_sums, drafts_are_valid, states_are_added, transitions_are_added,
+};
 pub use transition::Transition;

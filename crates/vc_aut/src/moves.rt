@@ -43,7 +43,10 @@ pub(crate) fn add<L: LabelSet, S: Semiring>(
         }
         None => {
             if moves.len() >= MOST_TRANSITIONS {
-                return Err(MakeFault::Limit(Limit { what: Measure::Transitions, most: MOST_TRANSITIONS as u64 }));
+                return Err(MakeFault::Limit(Limit {
+                    what: Measure::Transitions,
+                    most: MOST_TRANSITIONS as u64,
+                }));
             }
             let Ok(_) = moves.insert(key, weight) else {
                 return Err(MakeFault::Memory(AllocError));
@@ -63,7 +66,12 @@ pub(crate) fn finish<L: LabelSet, S: Semiring>(
     let mut transitions = Vec::with_capacity(alloc, moves.len())?;
     for ((from, label, to), weight) in moves {
         if weight != S::zero() {
-            transitions.push(Transition { from, label, to, weight })?;
+            transitions.push(Transition {
+                from,
+                label,
+                to,
+                weight,
+            })?;
         }
     }
     Ok(transitions)

@@ -6,7 +6,7 @@ use Rattle.vc_basic.specs.Tropical.{lesser, total, is_held, tropical}
 use Rattle.vc_basic.specs.declared.tropical.NminValue.{NminValue}
 use Rattle.vc_basic.specs.declared.tropical.NminValue.TheVariants.{Finite, Infinite}
 
-lesser-assoc : (a b c : NminValue) → lesser (lesser a b) c ≡ lesser a (lesser b c)
+pub lesser-assoc : (a b c : NminValue) → lesser (lesser a b) c ≡ lesser a (lesser b c)
 lesser-assoc Infinite b c = refl
 lesser-assoc (Finite l) Infinite c = refl
 lesser-assoc (Finite l) (Finite m) Infinite = refl
@@ -18,7 +18,7 @@ lesser-comm Infinite (Finite n) = refl
 lesser-comm (Finite m) Infinite = refl
 lesser-comm (Finite m) (Finite n) = ap Finite (omega arith)
 
-lesser-infinite : (a : NminValue) → lesser a Infinite ≡ a
+pub lesser-infinite : (a : NminValue) → lesser a Infinite ≡ a
 lesser-infinite Infinite = refl
 lesser-infinite (Finite n) = refl
 

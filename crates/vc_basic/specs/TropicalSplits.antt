@@ -123,5 +123,5 @@ pub tropical_split_ranges : SplitRanges tropical least_entry tropical_normal (λ
 tropical_split_ranges = record {
   factor_in = λ row p h f. least_held row p;
   normal_in = λ row p h f. All-map (λ b. IsTrue (is_held b)) (λ a. without a (least_entry row)) row
-    (All-weaker (λ b. IsTrue (is_held b)) (λ b. IsTrue (is_held (without b (least_entry row)))) (λ b q. without_held b (least_entry row) q) row p);
+      (All-weaker (λ b. IsTrue (is_held b)) (λ b. IsTrue (is_held (without b (least_entry row)))) (λ b q. without_held b (least_entry row) q) row p);
 }

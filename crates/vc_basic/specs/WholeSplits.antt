@@ -271,5 +271,5 @@ pub whole_split_ranges : SplitRanges wholes whole_factor whole_normal (λ _. [])
 whole_split_ranges = record {
   factor_in = λ row p h f. factor_in row p;
   normal_in = λ row p h f. All-map (λ y. IsTrue (in_range y)) (λ z. int_div z (whole_factor row)) row
-    (All-weaker (λ y. IsTrue (in_range y)) (λ y. IsTrue (in_range (int_div y (whole_factor row)))) (λ y q. quotient_in y (whole_factor row) q) row p);
+      (All-weaker (λ y. IsTrue (in_range y)) (λ y. IsTrue (in_range (int_div y (whole_factor row)))) (λ y q. quotient_in y (whole_factor row) q) row p);
 }

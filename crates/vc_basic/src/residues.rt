@@ -1,15 +1,16 @@
-ghost use Rattle.std.specs.Prelude.{true, false};
+ghost use Rattle.std.specs.Prelude.{true, false, []};
 ghost use Rattle.std.proofs.Common.{arith};
 ghost use Rattle.vc_basic.specs.Truths.{spelled_bit, bit_text};
 ghost use Rattle.vc_basic.specs.Residues.{residues};
+ghost use Rattle.vc_basic.specs.Splits.{one_splits, one_split_ranges};
 ghost use Rattle.vc_basic.specs.ResidueLaws.{residue_laws, residue_ranges, residue_field, residues_absorb, residue_texts};
 
 use crate::steps::{read_bit, star_of_zero, write_bit};
 use std::alloc::AllocError;
-use vc_ring::{Field, NumberFault, Overflow, Semiring, StarFault};
+use vc_ring::{Field, NumberFault, Overflow, Semiring, Split, StarFault};
 
 /// The field of two elements: the numbers 0 and 1 modulo 2. Every step fits, and zero alone has a
-/// star.
+/// star. A weight's text is `0` or `1`, and a row splits into one and itself.
 #[derive(Clone, Copy, Debug, PartialEq, Eq)]
 pub struct F2;
 
@@ -80,5 +81,21 @@ impl Field for F2 {
 
     fn inverse(of: bool) -> bool {
         of
+    }
+}
+
+impl Split for F2 {
+    ghost factor = { λ _. true };
+
+    ghost normal = { λ row. row };
+
+    ghost split_steps = { λ _. [] };
+
+    ghost split_laws = { one_splits residue_laws };
+
+    ghost split_ranges = { one_split_ranges residue_ranges };
+
+    fn split(_row: &mut [bool]) -> Result<bool, Overflow<bool>> {
+        Ok(true)
     }
 }

@@ -1,13 +1,15 @@
-ghost use Rattle.std.specs.Prelude.{true, refl};
+ghost use Rattle.std.specs.Prelude.{true, refl, []};
 ghost use Rattle.std.proofs.Common.{arith};
 ghost use Rattle.vc_basic.specs.Truths.{truths, spelled_bit, bit_text};
+ghost use Rattle.vc_basic.specs.Splits.{one_splits, one_split_ranges};
 ghost use Rattle.vc_basic.specs.TruthLaws.{truth_laws, truth_ranges, truth_absorbs, truth_texts};
 
 use crate::steps::{read_bit, write_bit};
 use std::alloc::AllocError;
-use vc_ring::{NumberFault, Overflow, Semiring, StarFault};
+use vc_ring::{NumberFault, Overflow, Semiring, Split, StarFault};
 
-/// The truth values: sums by or, products by and. Every step fits and every star is one.
+/// The truth values: sums by or, products by and. Every step fits and every star is one. A weight's
+/// text is `0` or `1`, and a row splits into one and itself.
 #[derive(Clone, Copy, Debug, PartialEq, Eq)]
 pub struct B;
 
@@ -62,5 +64,21 @@ impl Semiring for B {
 
     fn write(value: bool, into: &mut String) -> Result<(), AllocError> {
         write_bit!(value, into)
+    }
+}
+
+impl Split for B {
+    ghost factor = { λ _. true };
+
+    ghost normal = { λ row. row };
+
+    ghost split_steps = { λ _. [] };
+
+    ghost split_laws = { one_splits truth_laws };
+
+    ghost split_ranges = { one_split_ranges truth_ranges };
+
+    fn split(_row: &mut [bool]) -> Result<bool, Overflow<bool>> {
+        Ok(true)
     }
 }

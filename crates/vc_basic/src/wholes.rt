@@ -1,21 +1,26 @@
-ghost use Rattle.std.specs.Prelude.{◌≡◌, ◌<◌, true, false, IsTrue};
+ghost use Rattle.std.specs.Prelude.{◌≡◌, ◌<◌, true, false, IsTrue, [], int_div, map, unsigned_abs};
 ghost use Rattle.std.specs.Fmt.{signed_decimal};
 ghost use Rattle.std.specs.Option.{option_map};
 ghost use Rattle.std.proofs.Common.{arith};
 ghost use Rattle.std.proofs.lemmas.Int.{ints};
+ghost use Rattle.vc_model.specs.WeightSet.{InRange};
+ghost use Rattle.vc_num.specs.Range.{in_range};
 ghost use Rattle.vc_ring.specs.Texts.{read_as};
 ghost use Rattle.vc_basic.specs.Texts.{spelled_natural};
 ghost use Rattle.vc_basic.specs.Wholes.{wholes, signed, spelled_whole, magnitude_fits, whole_fits};
 ghost use Rattle.vc_basic.specs.WholeLaws.{whole_laws, whole_ranges, wholes_absorb};
+ghost use Rattle.vc_basic.specs.WholeSplits.{common_divisor, leading_sign, whole_factor, whole_normal, whole_splits, whole_split_ranges};
 ghost use Rattle.vc_basic.specs.WholeTexts.{whole_texts};
 
 use crate::steps::{star_of_zero, step, write_number};
 use std::alloc::AllocError;
-use vc_num::{DecimalFault, checked_add, checked_mul, read_decimal};
-use vc_ring::{NumberFault, Overflow, Semiring, StarFault};
+use vc_num::{DecimalFault, checked_add, checked_mul, gcd, read_decimal};
+use vc_ring::{NumberFault, Overflow, Semiring, Split, StarFault};
 
 /// The whole numbers of magnitude at most 2^127 - 1. Sums and products past it do not fit, and zero
-/// alone has a star.
+/// alone has a star. A weight's text is an optional `-` and one or more digits; it is written without
+/// leading zeros. A row splits into the greatest common divisor of its entries, with the sign of the
+/// first that is not zero, and the quotients.
 #[derive(Clone, Copy, Debug, PartialEq, Eq)]
 pub struct Z;
 
@@ -88,4 +93,71 @@ fn read_signed(negative: bool, digits: &[u8]) -> Result<i128, NumberFault>
         Ok(_) | Err(DecimalFault::Overflow) => Err(NumberFault::Overflow),
         Err(DecimalFault::NotDigits { .. }) => Err(NumberFault::Bad),
     }
+}
+
+impl Split for Z {
+    ghost factor = { whole_factor };
+
+    ghost normal = { whole_normal };
+
+    ghost split_steps = { λ _. [] };
+
+    ghost split_laws = { whole_splits };
+
+    ghost split_ranges = { whole_split_ranges };
+
+    fn split(row: &mut [i128]) -> Result<i128, Overflow<i128>> {
+        let factor = factor_of(row);
+        divide_each(row, factor);
+        Ok(factor)
+    }
+}
+
+// The greatest common divisor of a row, with the sign of its first entry that is not zero.
+fn factor_of(row: &[i128]) -> i128
+    requires { InRange wholes row.now }
+    ensures { result ≡ whole_factor row.now }
+{
+    let divisor = divisor_of(row) as i128;
+    sign_of(row) * divisor
+}
+
+fn divisor_of(row: &[i128]) -> u128
+    ensures { result ≡ common_divisor row.now }
+{
+    let mut common = 0;
+    for entry in row {
+        common = gcd(common, entry.unsigned_abs());
+    }
+    common
+}
+
+// The sign of the first entry that is not zero.
+fn sign_of(row: &[i128]) -> i128
+    ensures { result ≡ leading_sign row.now }
+{
+    for entry in row {
+        if *entry != 0 {
+            return entry.signum();
+        }
+    }
+    0
+}
+
+fn divide_each(row: &mut [i128], factor: i128)
+    requires row_in { InRange wholes row.old }
+    requires not_zero { 0 < unsigned_abs factor }
+    ensures { row.new ≡ map (λ z. int_div z factor) row.old }
+{
+    for entry in row.iter_mut() {
+        *entry = quotient(*entry, factor);
+    }
+}
+
+fn quotient(entry: i128, factor: i128) -> i128
+    requires entry_in { IsTrue (in_range entry) }
+    requires not_zero { 0 < unsigned_abs factor }
+    ensures { result ≡ int_div entry factor }
+{
+    entry / factor
 }

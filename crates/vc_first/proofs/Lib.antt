@@ -2,7 +2,12 @@ pub mod Steps
 pub mod Spelling
 pub mod Texts
 pub mod Places
+pub mod Alphabets
 pub mod Sums
 pub mod Numbers
 pub mod OneSeries
 pub mod Few
+pub mod Refused
+pub mod Kept
+pub mod Added
+pub mod Finished

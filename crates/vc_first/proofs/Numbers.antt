@@ -14,11 +14,10 @@ use Rattle.vc_first.specs.Grammar.{Line, initial_at, final_at, moves, IsLine}
 use Rattle.vc_first.specs.Automata.{names, is_state, digits_of, number_of, transitions_by, IsAutomatonOf}
 
 -- how many numbers below n pass the test
-count : (ℕ → Bool) → ℕ → ℕ
+abbrev pub count : (ℕ → Bool) → ℕ → ℕ
 count p n = length (filter p (below n))
 
-count_more : (p : ℕ → Bool) (n : ℕ) → count p (n + 1) ≡ count p n + cond (p n) 1 0
-unfolding count
+pub count_more : (p : ℕ → Bool) (n : ℕ) → count p (n + 1) ≡ count p n + cond (p n) 1 0
 count_more p n =
     ap (λ xs. length (filter p xs)) (up_from-more 0 n)
     ∙ ap length (filter-append p (below n) ((0 + n) ∷ []))
@@ -42,7 +41,6 @@ count_grows p n (suc k) =
 
 -- the number of a state is below the number of states
 pub number_below : (lines : List Line) (d : ℕ) → d < 10 → is_state lines d ≡ true → number_of lines d < length (digits_of lines)
-unfolding count
 number_below lines d h s =
     let e : (d + 1) + (9 - d) ≡ 10 = omega arith in
     let m : count (is_state lines) (d + 1) ≡ count (is_state lines) d + 1 = count_more (is_state lines) d ∙ ap (λ b. count (is_state lines) d + cond b 1 0) s in
@@ -61,7 +59,7 @@ few_digits lines = short (is_state lines) (below 10)
         pick true h = omega (arith, h)
         pick false h = omega (arith, h)
 
-named : (lines : List Line) (l : Line) (d : ℕ) → In l lines → names d l ≡ true → is_state lines d ≡ true
+pub named : (lines : List Line) (l : Line) (d : ℕ) → In l lines → names d l ≡ true → is_state lines d ≡ true
 named [] l d i h = absurd i
 named (k ∷ lines) l d (inl e) h = ap (λ b. b || list_any (names d) lines) (ap (names d) (sym e) ∙ h)
 named (k ∷ lines) l d (inr i) h = right (names d k) (list_any (names d) lines) (named lines l d i h)
@@ -91,7 +89,7 @@ initial_below alphabet lines n i h = number_below lines n h (named lines (initia
 pub final_below : (alphabet : List ℕ) (lines : List Line) (n : ℕ) → In (final_at n) lines → IsLine alphabet (final_at n) → number_of lines n < length (digits_of lines)
 final_below alphabet lines n i h = number_below lines n h (named lines (final_at n) n i (eq-eqb n n refl))
 
--- a transition of a line: two states of the automaton, and one letter of the alphabet
+-- a transition that lines give: two states of their automaton, and one letter of the alphabet
 pub record IsStep {V : Type 0} (alphabet : List ℕ) (lines : List Line) (t : Transition V) : Type 0 where
   pub letter : ℕ
   pub inside : In letter alphabet

@@ -4,3 +4,4 @@ pub mod View
 pub mod Views
 pub mod Automata
 pub mod Digits
+pub mod Building

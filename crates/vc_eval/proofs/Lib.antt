@@ -1,0 +1,9 @@
+pub mod Zeros
+pub mod Pushes
+pub mod Sweeps
+pub mod Sources
+pub mod Targets
+pub mod LetterSteps
+pub mod Positions
+pub mod Ends
+pub mod Letters

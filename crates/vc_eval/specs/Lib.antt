@@ -1,0 +1,4 @@
+pub mod Forward
+pub mod Moves
+pub mod Cells
+pub mod Ready
