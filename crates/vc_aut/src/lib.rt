@@ -14,3 +14,6 @@ pub use laws::{
     automata_are_valid, drafts_are_sums, drafts_are_valid, states_are_added, transitions_are_added,
 };
 pub use transition::Transition;
+
+#[cfg(test)]
+mod tests;

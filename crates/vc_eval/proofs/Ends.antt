@@ -1,12 +1,12 @@
 -- The sum at the end, and the outcome of all steps.
-use Rattle.std.proofs.Common.{◌≡◌, ℕ, ◌<◌, ◌+◌, List, [], ◌∷◌, ◌++◌, Result, Ok, Err, Bool, false, get_or, length, map, take, replicate, refl, sym, ap, ap₂, ◌∙◌, inl, inr, subst, zero, suc, arith}
+use Rattle.std.proofs.Common.{◌≡◌, ℕ, ◌<◌, ◌+◌, List, [], ◌∷◌, ◌++◌, Result, Ok, Err, false, length, map, take, replicate, refl, sym, ap, ap₂, ◌∙◌, inl, inr, subst, arith}
 use Rattle.std.specs.List.{flat_map}
 use Rattle.vc_model.specs.WeightSet.{WeightSet, SemiringLaws}
 use Rattle.vc_model.specs.Automata.{Automaton, IsAutomaton, row, final_weight, coefficient}
 use Rattle.vc_model.specs.Letters.{HasLetters}
 use Rattle.vc_model.specs.Lists.{In, below}
 use Rattle.vc_model.specs.Sums.{sum_over, sum_onto}
-use Rattle.vc_model.specs.Words.{Tape, Word}
+use Rattle.vc_model.specs.Words.{Tape}
 use Rattle.vc_model.proofs.LetterRows.{HasLetters-IsProper}
 use Rattle.vc_model.proofs.Members.{In-up_from, In-append_left, In-append_right, In-flat_map}
 use Rattle.vc_model.proofs.OutcomeLaws.{AllFit-append, outcome-is}
@@ -73,12 +73,12 @@ module _ {V : Type 0} {R : WeightSet V} (L : SemiringLaws R) (A : Automaton V) (
       let o = from_ok R (in_turn R R.zero (ends R A row')) (sum_onto R R.zero (products R (ends R A row'))) v (sym q) in (
         o.0 ∙ ap (λ ps. sum_onto R R.zero (products R ps)) (ends-are row' e) ∙ ends-sum,
         AllFit-append (fits R) (flat_map (row_steps R A) (prefixes (tape ∷ []))) (end_steps R A (tape ∷ [])) (prefixes-fit h)
-        (subst (λ ps. AllFit R (products_steps R R.zero ps)) (ends-are row' e) (in_turn-fits R R.zero (ends R A row') o.1)),
+            (subst (λ ps. AllFit R (products_steps R R.zero ps)) (ends-are row' e) (in_turn-fits R R.zero (ends R A row') o.1)),
       )
   finished row' e h (Err s) q =
       let o = from_err R (in_turn R R.zero (ends R A row')) (sum_onto R R.zero (products R (ends R A row'))) s (sym q) in (
         In-append_right s (flat_map (row_steps R A) (prefixes (tape ∷ []))) (end_steps R A (tape ∷ []))
-        (subst (λ ps. In s (products_steps R R.zero ps)) (ends-are row' e) (in_turn-In R R.zero (ends R A row') s o.0)),
+            (subst (λ ps. In s (products_steps R R.zero ps)) (ends-are row' e) (in_turn-In R R.zero (ends R A row') s o.0)),
         o.1,
       )
 
@@ -89,7 +89,7 @@ module _ {V : Type 0} {R : WeightSet V} (L : SemiringLaws R) (A : Automaton V) (
   refused g i x l m same e q =
       let o = from_err R (move_steps R g x (by_source A) (replicate A.states R.zero)) (tt {0}) e q in (
         In-append_left e (flat_map (row_steps R A) (prefixes (tape ∷ []))) (end_steps R A (tape ∷ []))
-        (In-flat_map (row_steps R A) e (take (i + 1) tape ∷ []) (prefixes (tape ∷ [])) (prefixes-In tape i l)
-        (subst (λ a. In e (row_steps R A (a ∷ []))) (sym m) (row-In L A G H g (take i tape) x same e o.0))),
+            (In-flat_map (row_steps R A) e (take (i + 1) tape ∷ []) (prefixes (tape ∷ [])) (prefixes-In tape i l)
+            (subst (λ a. In e (row_steps R A (a ∷ []))) (sym m) (row-In L A G H g (take i tape) x same e o.0))),
         o.1,
       )

@@ -1,20 +1,18 @@
 -- A row step reads one letter more: its sums are the row of the longer prefix, and its steps are those of that row.
-use Rattle.std.proofs.Common.{◌≡◌, ◌≢◌, ℕ, ◌<◌, ◌≤◌, ◌+◌, ◌==◌, IsTrue, List, [], ◌∷◌, ◌++◌, Bool, true, false, not, cond, eqb, get_or, length, map, take, drop, filter, replicate, refl, sym, ap, ap₂, ◌∙◌, inl, inr, subst, zero, suc, arith, Option, Some, None, append_assoc, length-append}
+use Rattle.std.proofs.Common.{◌≡◌, ◌≢◌, ℕ, ◌<◌, ◌==◌, List, [], ◌∷◌, ◌++◌, Bool, true, false, cond, eqb, length, filter, replicate, refl, sym, ap, ap₂, ◌∙◌, inl, inr, subst, arith, Option, Some, None}
 use Rattle.std.specs.List.{flat_map}
-use Rattle.std.proofs.lemmas.List.{take_more, take_all, same_from_push, get_or-replicate, length-replicate}
+use Rattle.std.proofs.lemmas.List.{same_from_push, get_or-replicate, length-replicate}
 use Rattle.std.proofs.lemmas.Bool.{eqb-true}
 use Rattle.std.proofs.lemmas.Bool.Decides.{eqb_tells}
 use Rattle.vc_model.specs.WeightSet.{WeightSet, SemiringLaws}
-use Rattle.vc_model.specs.Automata.{Transition, Automaton, IsAutomaton, at_rest, row, final_weight, coefficient}
-use Rattle.vc_model.specs.Letters.{letter_of, HasLetters, arrival_sum}
+use Rattle.vc_model.specs.Automata.{Transition, Automaton, IsAutomaton, at_rest, row}
+use Rattle.vc_model.specs.Letters.{letter_of, HasLetters}
 use Rattle.vc_model.specs.Lists.{In, below}
 use Rattle.vc_model.specs.Sums.{sum_over, sum_onto}
-use Rattle.vc_model.specs.Words.{Tape, Word, is_empty, front_before, put_front, cut_end, cuts, join}
-use Rattle.vc_model.proofs.Cuts.{cuts-In, In-cuts}
-use Rattle.vc_model.proofs.LetterRows.{row_letter, row_empty, HasLetters-IsProper}
+use Rattle.vc_model.specs.Words.{Tape, Word, front_before, put_front, cut_end}
+use Rattle.vc_model.proofs.LetterRows.{row_letter}
 use Rattle.vc_model.proofs.LastSteps.{sum_pick_state, eqb_comm}
-use Rattle.vc_model.proofs.Members.{In-up_from, up_from-In, In-filter, In-filter_from, In-flat_map, In-flat_map_from, In-map, In-map_from}
-use Rattle.vc_model.proofs.ProperRows.{coefficient-row}
+use Rattle.vc_model.proofs.Members.{In-up_from, up_from-In, In-filter_from, In-flat_map, In-flat_map_from}
 use Rattle.vc_model.proofs.SumLaws.{sum_onto-is, sum-map, sum-flat_map, sum-filter, sum_same, sum_swap}
 use Rattle.vc_model.proofs.WordEnds.{front_before-append, append-front_before}
 use Rattle.vc_model.specs.Outcomes as steps
@@ -22,7 +20,7 @@ use Rattle.vc_model.proofs.OutcomeLaws.{AllFit-append}
 use Rattle.vc_model.proofs.Rearranged.{zero_plus}
 use Rattle.vc_ring.specs.Steps.{fits, AllFit}
 use Rattle.vc_ring.specs.declared.faults.Overflow.{Overflow}
-use Rattle.vc_eval.specs.Forward.{products, products_steps, by_source, last_factors, row_factors, row_steps, prefixes}
+use Rattle.vc_eval.specs.Forward.{products, products_steps, by_source, last_factors, row_factors, row_steps}
 use Rattle.vc_eval.specs.Moves.{entry, moved, move_steps}
 use Rattle.vc_eval.proofs.Targets.{factors_to, moved-entry, moved-length, moved-fits, moved-In}
 

@@ -1,5 +1,5 @@
 -- The positions of a word of one tape.
-use Rattle.std.proofs.Common.{◌≡◌, ℕ, ◌<◌, ◌+◌, List, [], ◌∷◌, ◌++◌, Bool, true, false, not, length, map, take, drop, filter, refl, sym, ap, ◌∙◌, subst, zero, suc, arith, length-append}
+use Rattle.std.proofs.Common.{◌≡◌, ℕ, ◌<◌, ◌+◌, [], ◌∷◌, ◌++◌, true, not, length, map, take, drop, refl, sym, ap, ◌∙◌, subst, suc, arith, length-append}
 use Rattle.std.proofs.Math.Seq.{take-append_seam}
 use Rattle.std.proofs.lemmas.List.{take-append-drop}
 use Rattle.vc_model.specs.Lists.{In}

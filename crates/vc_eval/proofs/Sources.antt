@@ -1,5 +1,5 @@
 -- Row steps source by source.
-use Rattle.std.proofs.Common.{◌≡◌, ℕ, ◌<◌, ◌+◌, ◌-◌, ◌==◌, IsTrue, List, [], ◌∷◌, ◌++◌, All, Ok, Err, Bool, true, false, not, cond, get_or, set, length, filter, refl, sym, ap, ap₂, ◌∙◌, inl, inr, zero, suc, arith, append_assoc}
+use Rattle.std.proofs.Common.{◌≡◌, ℕ, ◌<◌, ◌+◌, ◌-◌, ◌==◌, IsTrue, List, [], ◌∷◌, ◌++◌, All, Ok, Err, Bool, true, false, not, cond, set, length, filter, refl, sym, ap, ap₂, ◌∙◌, inl, inr, zero, suc, arith, append_assoc}
 use Rattle.std.specs.List.{flat_map}
 use Rattle.std.proofs.lemmas.Bool.{eqb-true}
 use Rattle.std.proofs.lemmas.List.{set-get_or}

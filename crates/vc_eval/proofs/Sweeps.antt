@@ -1,5 +1,5 @@
 -- Sums of products, state by state.
-use Rattle.std.proofs.Common.{◌≡◌, ℕ, ◌<◌, ◌+◌, ◌-◌, List, [], ◌∷◌, ◌++◌, Ok, Err, Result, get_or, length, map, sym, ap, ap₂, ◌∙◌, zero, suc, arith}
+use Rattle.std.proofs.Common.{◌≡◌, ℕ, ◌<◌, ◌+◌, ◌-◌, List, [], ◌∷◌, ◌++◌, Ok, Err, Result, map, sym, ap, ap₂, ◌∙◌, suc, arith}
 use Rattle.vc_model.specs.WeightSet.{WeightSet}
 use Rattle.vc_model.specs.Lists.{up_from}
 use Rattle.vc_model.specs.Sums.{sum_onto}

@@ -1,5 +1,5 @@
 -- What a row step does at each target: a sum of products, with its steps.
-use Rattle.std.proofs.Common.{◌≡◌, ◌≢◌, ℕ, ◌<◌, ◌+◌, ◌==◌, IsTrue, List, [], ◌∷◌, ◌++◌, Bool, true, false, cond, get_or, set, length, map, refl, sym, ap, ap₂, ◌∙◌, inl, inr, subst, zero, suc, arith}
+use Rattle.std.proofs.Common.{◌≡◌, ◌≢◌, ℕ, ◌<◌, ◌==◌, IsTrue, List, [], ◌∷◌, ◌++◌, Bool, true, false, cond, set, length, map, refl, sym, ap, ◌∙◌, inl, inr, subst}
 use Rattle.std.specs.List.{flat_map}
 use Rattle.std.proofs.lemmas.List.{get_or-set_same, get_or-set_other, length-set}
 use Rattle.std.proofs.lemmas.Bool.{eq-eqb}
@@ -140,14 +140,16 @@ module _ {V : Type 0} (R : WeightSet V) (g : ℕ → V) (x : ℕ) where
           let k : t < length row = subst (λ n. t < n) (length-set row u.to (R.plus (entry R row u.to) (R.times (g u.from) u.weight))) l in
           elim (eqb_tells u.to t) [
             | inl q ↦ (
-              t, k,
+              t,
+              k,
               subst (λ c. In e (products_steps R (entry R row t) (cond c ((g u.from, u.weight) ∷ []) [] ++ factors_to t us))) (sym q.0)
-              (cons_rest R (entry R row t) (g u.from) u.weight (factors_to t us) e (subst (λ a. In e (products_steps R a (factors_to t us))) (added_same u row t k q.1) j))
+                  (cons_rest R (entry R row t) (g u.from) u.weight (factors_to t us) e (subst (λ a. In e (products_steps R a (factors_to t us))) (added_same u row t k q.1) j)),
             )
             | inr n ↦ (
-              t, k,
+              t,
+              k,
               subst (λ c. In e (products_steps R (entry R row t) (cond c ((g u.from, u.weight) ∷ []) [] ++ factors_to t us))) (sym n.0)
-              (subst (λ a. In e (products_steps R a (factors_to t us))) (added_other u row t n.1) j)
+                  (subst (λ a. In e (products_steps R a (factors_to t us))) (added_other u row t n.1) j),
             )
           ]
       later false (t, l, j) = (t, l, idle (u.to == t))

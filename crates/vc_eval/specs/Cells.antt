@@ -1,7 +1,6 @@
 -- The room that an evaluator takes.
 use Rattle.std.specs.Prelude.{ℕ, ◌*◌, nat_lt, Option, None, Some, if◌then◌else◌}
 use Rattle.vc_model.specs.Automata.{Automaton}
-use Rattle.vc_ring.specs.declared.faults.Limit.{Limit}
 use Rattle.vc_ring.specs.declared.faults.MakeFault.{MakeFault}
 use Rattle.vc_ring.specs.declared.faults.MakeFault.TheVariants.{Limit as PastLimit}
 use Rattle.vc_ring.specs.declared.faults.Measure.TheVariants.{Cells}

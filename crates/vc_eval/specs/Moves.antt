@@ -1,5 +1,5 @@
 -- How transitions with a letter lead from one row of weights to the next.
-use Rattle.std.specs.Prelude.{◌≡◌, ℕ, ◌<◌, IsTrue, List, [], ◌∷◌, ◌++◌, map, filter, slice_index_or, slice_set, ◌==◌, if◌then◌else◌}
+use Rattle.std.specs.Prelude.{◌≡◌, ℕ, ◌<◌, IsTrue, List, [], ◌∷◌, ◌++◌, map, slice_index_or, slice_set, ◌==◌, if◌then◌else◌}
 use Rattle.vc_model.specs.WeightSet.{WeightSet}
 use Rattle.vc_model.specs.Lists.{below}
 use Rattle.vc_model.specs.Letters.{letter_of}

@@ -3,10 +3,9 @@ ghost use Rattle.vc_aut.specs.Stored.{transition_of};
 ghost use Rattle.vc_eval.specs.Forward.{by_source, products, forward_steps};
 ghost use Rattle.vc_eval.specs.Moves.{entry, IsLetterMove, moved, move_steps, moved_once, once_steps, ends, in_turn};
 ghost use Rattle.vc_model.specs.Automata.{coefficient, initial_weight};
-ghost use Rattle.vc_model.specs.Letters.{HasLetters, letter_of};
+ghost use Rattle.vc_model.specs.Letters.{HasLetters};
 ghost use Rattle.vc_model.specs.Sums.{sum_onto};
 ghost use Rattle.vc_model.specs.WeightSet.{InRange};
-ghost use Rattle.vc_model.specs.Words.{Word};
 ghost use Rattle.vc_ring.specs.Steps.{outcome, IsOutcome};
 ghost use Rattle.vc_ring.specs.declared.faults.Overflow.TheVariants.{Add, Mul};
 

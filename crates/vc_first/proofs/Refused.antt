@@ -1,10 +1,9 @@
 -- Why a builder with few transitions refuses one more.
-use Rattle.std.proofs.Common.{◌≡◌, ◌≤◌, ◌<◌, ℕ, List, length, Bool, true, false, cond, Option, None, Some, Result, Ok, Err, refl, sym, ap, ◌∙◌, arith}
+use Rattle.std.proofs.Common.{◌≡◌, ◌≤◌, ◌<◌, ℕ, List, length, Bool, true, false, cond, Option, None, Some, Result, Ok, Err, refl, subst, arith}
 use Rattle.std.specs.Prelude.{nat_lt, IfErr}
 use Rattle.std.proofs.lemmas.Bool.{lt-ltb}
 use Rattle.vc_model.specs.WeightSet.{WeightSet}
 use Rattle.vc_model.specs.Automata.{Transition}
-use Rattle.vc_ring.specs.Steps.{fits}
 use Rattle.vc_ring.specs.declared.faults.Limit.{Limit}
 use Rattle.vc_ring.specs.declared.faults.MakeFault.{MakeFault}
 use Rattle.vc_ring.specs.declared.faults.MakeFault.TheVariants.{Overflow as Unfit, Limit as PastLimit, Memory}
@@ -14,12 +13,12 @@ use Rattle.vc_ring.specs.declared.faults.Overflow.TheVariants.{Add}
 use Rattle.vc_aut.specs.Refusals.{IsAnswer, state_refusal, weight_refusal, transition_refusal}
 use Rattle.vc_aut.specs.Drafts.{Draft}
 use Rattle.vc_aut.specs.Sums.{standing}
-use Rattle.vc_first.specs.Building.{IsReadFault}
+use Rattle.vc_first.specs.Building.{IsReadFault, IsUnfitSum}
 
 module _ {V : Type 0} (R : WeightSet V) where
-  unfit : (v w : V) (o : Overflow V) (b : Bool) → R.fits_plus v w ≡ b → cond b None (Some (Unfit (Add v w))) ≡ Some (Unfit o) → fits R o ≡ false
+  unfit : (v w : V) (o : Overflow V) (b : Bool) → R.fits_plus v w ≡ b → cond b None (Some (Unfit (Add v w))) ≡ Some (Unfit o) → IsUnfitSum R o
   unfit v w o true e h = absurd (cc h)
-  unfit v w o false e h = let q : Add v w ≡ o = cc h in ap (fits R) (sym q) ∙ e
+  unfit v w o false e h = let q : Add v w ≡ o = cc h in subst (IsUnfitSum R) q e
 
   no_limit : (v w : V) (l : Limit) (b : Bool) → cond b None (Some (Unfit (Add v w))) ≡ Some (PastLimit l) → ⊥
   no_limit v w l true h = absurd (cc h)

@@ -8,15 +8,20 @@ use Rattle.vc_label.specs.declared.tape_set.TapeSet.{TapeSet}
 use Rattle.vc_model.specs.Automata.{Transition}
 use Rattle.vc_model.specs.Lists.{In}
 use Rattle.vc_model.specs.WeightSet.{WeightSet}
-use Rattle.vc_ring.specs.Steps.{fits}
 use Rattle.vc_ring.specs.declared.faults.MakeFault.{MakeFault}
-use Rattle.vc_ring.specs.declared.faults.MakeFault.TheVariants.{Overflow, Limit, Memory}
+use Rattle.vc_ring.specs.declared.faults.MakeFault.TheVariants.{Overflow as Unfit, Limit, Memory}
+use Rattle.vc_ring.specs.declared.faults.Overflow.{Overflow}
+use Rattle.vc_ring.specs.declared.faults.Overflow.TheVariants.{Numeral, Add, Mul, Star}
 use Rattle.vc_first.specs.Automata.{names, transitions_by}
 use Rattle.vc_first.specs.Grammar.{Line, initial_at, final_at, moves}
 
 -- labels of one letter of the alphabet
 abbrev pub letter_sets : Alphabet → List TapeSet
 letter_sets alphabet = record { kind = Letters; alphabet = alphabet } ∷ []
+
+-- one tape, with labels of one letter of some alphabet
+abbrev pub AreLetters : List TapeSet → Type 0
+AreLetters sets = (alphabet : Alphabet) × (sets ≡ letter_sets alphabet)
 
 -- the letters of the line's transitions are in the alphabet
 abbrev pub HasLetters : Alphabet → Line → Type 0
@@ -69,8 +74,15 @@ module _ {V : Type 0} (R : WeightSet V) where
   with_lines number d [] = d
   with_lines number d (l ∷ ls) = with_lines number (with_line number d l) ls
 
+  -- the step is a sum that does not fit
+  abbrev pub IsUnfitSum : Overflow V → Type 0
+  IsUnfitSum (Add a b) = R.fits_plus a b ≡ false
+  IsUnfitSum (Mul a b) = ⊥
+  IsUnfitSum (Star a) = ⊥
+  IsUnfitSum (Numeral at) = ⊥
+
   -- why reading does not make an automaton: a sum does not fit, or there is no memory; no limit is passed
   abbrev pub IsReadFault : MakeFault V → Type 0
-  IsReadFault (Overflow step) = fits R step ≡ false
+  IsReadFault (Unfit step) = IsUnfitSum step
   IsReadFault (Limit l) = ⊥
   IsReadFault (Memory e) = ⊤

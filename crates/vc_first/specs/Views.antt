@@ -4,7 +4,6 @@ use Rattle.std.specs.Global.{Vec}
 use Rattle.std.specs.Borrow.{Bor}
 use Rattle.vc_first.specs.declared.line.Line.{Line}
 use Rattle.vc_first.specs.declared.reader.Input.{Input}
-use Rattle.vc_first.specs.Reading as reading
 use Rattle.vc_first.specs.Grammar as grammar
 use Rattle.vc_first.specs.View.{view}
 
@@ -20,9 +19,7 @@ abbrev pub bytes_answer : Option (Bor (List ℕ)) → Option (List ℕ)
 bytes_answer None = None
 bytes_answer (Some w) = Some w.now
 
-abbrev pub input_view : Input → reading.Input
-input_view i = record { alphabet = i.alphabet.now; lines = map view i.lines.items; word = i.word.now }
-
-abbrev pub input_answer : Option Input → Option reading.Input
-input_answer None = None
-input_answer (Some i) = Some (input_view i)
+-- what was read is what file and word text spell; none where they spell nothing
+abbrev pub IsRead : List ℕ → List ℕ → Option Input → Type 0
+IsRead file text None = (alphabet : List ℕ) (lines : List grammar.Line) (word : List ℕ) → ¬ grammar.IsInput file text alphabet lines word
+IsRead file text (Some i) = grammar.IsInput file text i.alphabet.now (map view i.lines.items) i.word.now

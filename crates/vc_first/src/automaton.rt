@@ -1,6 +1,6 @@
-ghost use Rattle.std.specs.Prelude.{◌≡◌, ℕ, List, map, true, IfOk, IfErr};
+ghost use Rattle.std.specs.Prelude.{◌≡◌, ◌≤◌, ℕ, List, map, true, IfOk, IfErr};
 ghost use Rattle.vc_first.specs.Automata.{IsAutomatonOf};
-ghost use Rattle.vc_first.specs.Building.{IsReadFault};
+ghost use Rattle.vc_first.specs.Building.{AreLetters, IsReadFault};
 ghost use Rattle.vc_first.specs.Grammar.{is_plain, IsLine};
 ghost use Rattle.vc_first.specs.Grammar as grammar;
 ghost use Rattle.vc_first.specs.View.{view};
@@ -31,6 +31,8 @@ pub fn automaton_of<S: Semiring>(
     requires plain { (x : ℕ) → In x alphabet.now → is_plain x ≡ true }
     requires lines { (l : grammar.Line) → In l (map view lines.now) → IsLine alphabet.now l }
     ensures ok { IfOk result (λ a. IsAutomatonOf S.set (map view lines.now) a.automaton) }
+    ensures sets { IfOk result (λ a. AreLetters a.sets) }
+    ensures states { IfOk result (λ a. a.automaton.states ≤ 10) }
     ensures err { IfErr result (IsReadFault S.set) }
 {
     let named = named_digits(lines);

@@ -1,7 +1,7 @@
 ghost use Rattle.std.specs.Prelude.{◌≡◌, ◌<◌, ◌≤◌, [], ◌∷◌, length, IfOk};
 ghost use Rattle.vc_first.specs.Grammar.{is_plain, lines_of};
-ghost use Rattle.vc_first.specs.Reading.{is_in, is_digit, line_length, are_entries, is_entry, line_at, line_parts, lines_at, plain_length, alphabet_at, head_at, all_in, word_at, input_at};
-ghost use Rattle.vc_first.specs.Views.{line_answer, lines_answer, bytes_answer, input_answer};
+ghost use Rattle.vc_first.specs.Reading.{is_in, is_digit, line_length, are_entries, is_entry, line_at, line_parts, lines_at, plain_length, alphabet_at, head_at, all_in, word_at};
+ghost use Rattle.vc_first.specs.Views.{line_answer, lines_answer, bytes_answer, IsRead};
 
 use crate::line::Line;
 use std::alloc::{AllocError, Global};
@@ -69,7 +69,7 @@ fn are_entries(alphabet: &[u8], text: &[u8]) -> bool
 
 /// The line with `a` before the arrow, and with `f` and the rest behind it.
 fn line_parts_of<'t>(alphabet: &[u8], a: u8, f: u8, rest: &'t [u8]) -> Option<Line<'t>>
-    ensures { line_answer result ≡ line_parts alphabet.now a f rest.entry.now }
+    ensures { line_answer result ≡ line_parts alphabet.now a f rest.now }
 {
     match rest {
         [] => {
@@ -96,7 +96,7 @@ fn line_parts_of<'t>(alphabet: &[u8], a: u8, f: u8, rest: &'t [u8]) -> Option<Li
 }
 
 fn line_of<'t>(alphabet: &[u8], text: &'t [u8]) -> Option<Line<'t>>
-    ensures { line_answer result ≡ line_at alphabet.now text.entry.now }
+    ensures { line_answer result ≡ line_at alphabet.now text.now }
 {
     let [a, b, c, d, e, f, rest @ ..] = text else {
         return None;
@@ -127,7 +127,7 @@ fn read_lines<'t>(
     alphabet: &[u8],
     bytes: &'t [u8],
 ) -> Result<Option<Vec<Line<'t>>>, AllocError>
-    ensures { IfOk result (λ o. lines_answer o ≡ lines_at alphabet.now [] (lines_of bytes.entry.now)) }
+    ensures { IfOk result (λ o. lines_answer o ≡ lines_at alphabet.now [] (lines_of bytes.now)) }
 {
     let mut lines = Vec::new(alloc);
     let mut rest = bytes;
@@ -163,7 +163,7 @@ fn plain_length(text: &[u8]) -> usize
 /// The alphabet in front, where the end of a first line stands behind it.
 #[tactic(auto, using(crate::proofs::Steps::rest_all))]
 fn alphabet_of(text: &[u8]) -> Option<&[u8]>
-    ensures { bytes_answer result ≡ alphabet_at (plain_length text.entry.now) text.entry.now }
+    ensures { bytes_answer result ≡ alphabet_at (plain_length text.now) text.now }
 {
     let n = plain_length(text);
     let rest = &text[n..];
@@ -177,7 +177,7 @@ fn alphabet_of(text: &[u8]) -> Option<&[u8]>
 /// The alphabet that the first line names.
 #[tactic(auto, using(crate::proofs::Steps::rest_all))]
 fn head_of(text: &[u8]) -> Option<&[u8]>
-    ensures { bytes_answer result ≡ head_at text.entry.now }
+    ensures { bytes_answer result ≡ head_at text.now }
 {
     let rest = text.strip_prefix("context = \"lal_char(".as_bytes())?;
     alphabet_of(rest)
@@ -196,7 +196,7 @@ fn all_in(alphabet: &[u8], text: &[u8]) -> bool
 
 /// The word of a word text.
 fn word_of<'t>(alphabet: &[u8], text: &'t [u8]) -> Option<&'t [u8]>
-    ensures { bytes_answer result ≡ word_at alphabet.now text.entry.now }
+    ensures { bytes_answer result ≡ word_at alphabet.now text.now }
 {
     if text == "\\e".as_bytes() {
         Some(&text[..0])
@@ -207,13 +207,14 @@ fn word_of<'t>(alphabet: &[u8], text: &'t [u8]) -> Option<&'t [u8]>
     }
 }
 
-/// What the file and the word text spell, or none. It refuses for memory alone.
+/// What the file and the word text spell, or none where they spell nothing. It refuses for memory
+/// alone.
 pub fn read_input<'t>(
     alloc: Global,
     file: &'t [u8],
     text: &'t [u8],
 ) -> Result<Option<Input<'t>>, AllocError>
-    ensures { IfOk result (λ o. input_answer o ≡ input_at file.entry.now text.entry.now) }
+    ensures { IfOk result (λ o. IsRead file.now text.now o) }
 {
     if file.is_empty() {
         return Ok(None);

@@ -1,3 +1,4 @@
 pub mod Letters
 pub mod Order
 pub mod Alphabets
+pub mod Sets

@@ -1,12 +1,14 @@
-ghost use Rattle.std.specs.Prelude.{◌≡◌, ◌↔◌};
+ghost use Rattle.std.specs.Prelude.{◌≡◌, ◌↔◌, List, [], ◌∷◌, length, false};
 ghost use Rattle.std.specs.Cmp.{IsTotalOrder};
 ghost use Rattle.std.specs.declared.cmp.Ordering.TheVariants.{Equal};
 ghost use Rattle.vc_label.specs.Order.{word_order};
-ghost use Rattle.vc_model.specs.Words.{Word};
+ghost use Rattle.vc_model.specs.Words.{Word, is_empty};
 ghost use Rattle.std.specs.Prelude.{ℕ, true, IsTrue};
 ghost use Rattle.std.specs.List.Sorted.{IsStrictlyIncreasing};
 ghost use Rattle.vc_label.specs.Alphabets.{has_letter, letters_of};
-ghost use Rattle.vc_label.specs.Letters.{is_letter};
+ghost use Rattle.vc_label.specs.Letters.{is_letter, is_of_letters};
+ghost use Rattle.vc_label.specs.Sets.{IsOverSets, IsSingleWord};
+ghost use Rattle.vc_label.specs.declared.tape_set.TapeSet.{TapeSet};
 ghost use Rattle.vc_label.specs.declared.alphabet.Alphabet.{Alphabet};
 ghost use Rattle.vc_model.specs.Lists.{In};
 
@@ -18,6 +20,15 @@ pub fn alphabets_are_sets()
     ensures same { (s t : Alphabet) → ((x : ℕ) → has_letter s x ≡ has_letter t x) → s ≡ t }
     ensures listed { (s : Alphabet) (x : ℕ) → In x (letters_of s) ↔ (has_letter s x ≡ true) }
     ensures ascending { (s : Alphabet) → IsStrictlyIncreasing (letters_of s) }
+{}
+
+/// A word over a list of tape sets has a tape for each set, and its bytes are letters. A word
+/// of one tape with at most one letter is empty or one letter.
+#[tactic(auto, using(crate::proofs::Sets::tapes_over, crate::proofs::Sets::letters_over, crate::proofs::Sets::single_letter))]
+pub fn words_are_over_sets()
+    ensures tapes { (ss : List TapeSet) (w : Word) → IsOverSets ss w → length w ≡ length ss }
+    ensures letters { (ss : List TapeSet) (w : Word) → IsOverSets ss w → IsTrue (is_of_letters w) }
+    ensures single { (w : Word) → IsSingleWord w → is_empty w ≡ false → (x : ℕ) × (w ≡ (x ∷ []) ∷ []) }
 {}
 
 /// The order of labels is total, and answers `Equal` exactly where the parts are the same.

@@ -2,6 +2,7 @@
 #![tactic(auto)]
 
 mod alphabet;
+mod extend;
 mod label_set;
 mod laws;
 mod tape_set;
@@ -12,7 +13,7 @@ mod word_buf;
 
 pub use alphabet::Alphabet;
 pub use label_set::{LabelFault, LabelSet};
-pub use laws::{alphabets_are_sets, words_are_ordered};
+pub use laws::{alphabets_are_sets, words_are_ordered, words_are_over_sets};
 pub use tape_set::{TapeKind, TapeSet};
 pub use word::Word;
 pub use word_buf::WordBuf;

@@ -3,6 +3,7 @@ ghost use Rattle.vc_label.specs.Letters.{is_letter, are_letters};
 ghost use Rattle.vc_label.specs.Growth.{grown};
 ghost use Rattle.vc_model.specs.Words.{empty_word, join};
 
+use crate::extend::{extend_three, extend_two};
 use crate::word::Word;
 use std::alloc::{AllocError, Global};
 use std::marker::Model;
@@ -89,32 +90,14 @@ impl WordBuf {
     {
         match &mut self.lists {
             Lists::One(a) => return Ok(a.extend_from_slice(word.tape(0))?),
-            Lists::Two(a, b) => {
-                let (x, y) = (word.tape(0), word.tape(1));
-                a.reserve(x.len())?;
-                b.reserve(y.len())?;
-                a.extend_from_slice(x)?;
-                return Ok(b.extend_from_slice(y)?);
-            }
+            Lists::Two(a, b) => return extend_two(a, b, word.tape(0), word.tape(1)),
             Lists::Three(a, b, c) => {
-                let (x, y, z) = (word.tape(0), word.tape(1), word.tape(2));
-                a.reserve(x.len())?;
-                b.reserve(y.len())?;
-                c.reserve(z.len())?;
-                a.extend_from_slice(x)?;
-                b.extend_from_slice(y)?;
-                return Ok(c.extend_from_slice(z)?);
+                return extend_three(a, b, c, word.tape(0), word.tape(1), word.tape(2));
             }
             Lists::Four(a, b, c, d) => {
-                let (w, x, y, z) = (word.tape(0), word.tape(1), word.tape(2), word.tape(3));
-                a.reserve(w.len())?;
-                b.reserve(x.len())?;
-                c.reserve(y.len())?;
-                d.reserve(z.len())?;
-                a.extend_from_slice(w)?;
-                b.extend_from_slice(x)?;
-                c.extend_from_slice(y)?;
-                return Ok(d.extend_from_slice(z)?);
+                a.reserve(word.tape(0).len())?;
+                extend_three(b, c, d, word.tape(1), word.tape(2), word.tape(3))?;
+                return Ok(a.extend_from_slice(word.tape(0))?);
             }
         }
     }

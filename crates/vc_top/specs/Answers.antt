@@ -1,6 +1,5 @@
 -- Which answers a request allows, each with its cause.
-use Rattle.std.specs.Prelude.{◌≡◌, ◌<◌, ◌≤◌, ℕ, length, Option, None, Some, Result, Ok, Err, ⊤, ◌⊎◌, string_bytes}
-use Rattle.std.specs.Global.{Vec, String}
+use Rattle.std.specs.Prelude.{◌≡◌, ◌<◌, ◌≤◌, ℕ, length, Option, None, Some, Result, Ok, Err, ⊤, ◌⊎◌}
 use Rattle.vc_files.specs.Files.{Bytes, Tells, Added}
 use Rattle.vc_top.specs.declared.status.Status.{Status}
 use Rattle.vc_top.specs.declared.status.Status.TheVariants as status

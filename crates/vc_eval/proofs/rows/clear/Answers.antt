@@ -1,4 +1,4 @@
-use Rattle.std.proofs.Common.{◌≡◌, ◌<◌, ◌∙◌, ap, length, replicate, arith}
+use Rattle.std.proofs.Common.{◌∙◌, ap, replicate, arith}
 use Rattle.vc_eval.proofs.Zeros.{replicate_of}
 use Rattle.vc_eval.proofs.rows.clear.Goals as goal
 

@@ -13,8 +13,8 @@ invariant-loop-s g l =
     let R = g.S.Semiring.set in
     let A = l.aut.automaton in
     let rest = map (λ (t : ℕ). (entry R l.row t, final_weight R A t)) (up_from l.s (A.states - l.s)) in (
-      record {
-        in_range : IsTrue (R.in_range l.total);
-        rest : outcome R (in_turn R l.total rest) (sum_onto R l.total (products R rest)) ≡ outcome R (in_turn R R.zero (ends R A l.row)) (sum_onto R R.zero (products R (ends R A l.row)));
-      }
+    record {
+      in_range : IsTrue (R.in_range l.total);
+      rest : outcome R (in_turn R l.total rest) (sum_onto R l.total (products R rest)) ≡ outcome R (in_turn R R.zero (ends R A l.row)) (sum_onto R R.zero (products R (ends R A l.row)));
+    }
     )

@@ -1,4 +1,4 @@
-use Rattle.std.proofs.Common.{◌≡◌, ◌<◌, ◌+◌, ◌++◌, ℕ, length, get_or, take, replicate, [], ◌∷◌, Ok, ap, sym, ◌∙◌, subst, arith, below_more}
+use Rattle.std.proofs.Common.{◌≡◌, ◌<◌, ◌+◌, ◌++◌, ℕ, length, get_or, take, replicate, [], ◌∷◌, ap, sym, ◌∙◌, subst, arith, below_more}
 use Rattle.std.proofs.lemmas.List.{with_items_is, take_more, take_all}
 use Rattle.std.proofs.lemmas.Result.{err_from_is_err_and}
 use Rattle.vc_model.specs.Automata.{IsAutomaton, row}

@@ -11,11 +11,11 @@ abbrev pub invariant-loop-letter : goal.invariant-loop-letter
 invariant-loop-letter g l =
     let R = g.S.Semiring.set in
     let A = l.aut.automaton in (
-      record {
-        row_length : length l.row.items ≡ A.states;
-        next_length : length l.next.items ≡ A.states;
-        in_range : InRange R l.row.items;
-        entries : (t : ℕ) → t < A.states → entry R l.row.items t ≡ row R A (take l.letter-index l.tape ∷ []) t;
-        fit : (j : ℕ) → j < l.letter-index → AllFit R (row_steps R A (take (j + 1) l.tape ∷ []));
-      }
+    record {
+      row_length : length l.row.items ≡ A.states;
+      next_length : length l.next.items ≡ A.states;
+      in_range : InRange R l.row.items;
+      entries : (t : ℕ) → t < A.states → entry R l.row.items t ≡ row R A (take l.letter-index l.tape ∷ []) t;
+      fit : (j : ℕ) → j < l.letter-index → AllFit R (row_steps R A (take (j + 1) l.tape ∷ []));
+    }
     )

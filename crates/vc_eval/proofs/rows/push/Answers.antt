@@ -1,8 +1,7 @@
-use Rattle.std.proofs.Common.{◌≡◌, ◌<◌, length, arith, ap, sym, ◌∙◌, subst, Ok, Err}
+use Rattle.std.proofs.Common.{length, sym, ◌∙◌, subst}
 use Rattle.std.proofs.lemmas.Result.{err_from_is_err_and}
 use Rattle.vc_aut.specs.Stored.{transition_of}
-use Rattle.vc_ring.specs.Steps.{outcome}
-use Rattle.vc_eval.specs.Moves.{IsLetterMove, once_steps, moved, move_steps}
+use Rattle.vc_eval.specs.Moves.{IsLetterMove}
 use Rattle.vc_eval.proofs.Pushes.{bring_steps, bring_row, bring_err, All-item}
 use Rattle.vc_eval.proofs.rows.push.Goals as goal
 

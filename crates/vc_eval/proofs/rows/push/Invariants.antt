@@ -1,4 +1,4 @@
-use Rattle.std.proofs.Common.{◌≡◌, ◌≤◌, length, map, drop}
+use Rattle.std.proofs.Common.{◌≡◌, map, drop}
 use Rattle.vc_aut.specs.Stored.{transition_of}
 use Rattle.vc_eval.specs.Moves.{moved, move_steps}
 use Rattle.vc_model.specs.WeightSet.{InRange}
@@ -11,9 +11,9 @@ invariant-loop-transition g l =
     let R = g.S.Semiring.set in
     let all = map (transition_of g.L.LabelSet.parts) l.transitions in
     let rest = drop l.transition-index all in (
-      record {
-        in_range : InRange R l.row;
-        steps : outcome R (move_steps R (λ _. l.from) l.letter rest l.row) (tt {0}) ≡ outcome R (move_steps R (λ _. l.from) l.letter all l.initial.row) (tt {0});
-        moved : moved R (λ _. l.from) l.letter rest l.row ≡ moved R (λ _. l.from) l.letter all l.initial.row;
-      }
+    record {
+      in_range : InRange R l.row;
+      steps : outcome R (move_steps R (λ _. l.from) l.letter rest l.row) (tt {0}) ≡ outcome R (move_steps R (λ _. l.from) l.letter all l.initial.row) (tt {0});
+      moved : moved R (λ _. l.from) l.letter rest l.row ≡ moved R (λ _. l.from) l.letter all l.initial.row;
+    }
     )

@@ -1,4 +1,4 @@
-use Rattle.std.proofs.Common.{◌≡◌, ◌<◌, ◌==◌, All, IsTrue, filter, length, ap, sym, ◌∙◌, subst, ◌+◌, arith}
+use Rattle.std.proofs.Common.{◌≡◌, ◌<◌, ◌==◌, All, filter, length, ap, sym, ◌∙◌, subst, ◌+◌, arith}
 use Rattle.std.proofs.lemmas.List.{get_or_default}
 use Rattle.std.proofs.lemmas.Result.{err_from_is_err_and}
 use Rattle.vc_model.specs.WeightSet.{InRange}
@@ -47,7 +47,7 @@ loop-s-preserved g c =
     elim c.if-ne.branch [
       | then-ne+in_ok-push w ↦
           let brought : c.if-ne.next ≡ moved R (λ _. v) x (filter (λ u. u.from == s) A.transitions) next
-              = w.next-is ∙ w.in_ok-push.ensures.row ∙ ap (λ us. moved R (λ _. v) x us next) w.transitions_from.ensures in
+          = w.next-is ∙ w.in_ok-push.ensures.row ∙ ap (λ us. moved R (λ _. v) x us next) w.transitions_from.ensures in
           record {
             in_range = subst (InRange R) (sym w.next-is) w.in_ok-push.ensures.still_in;
             steps = ap (λ new. outcome R (move_steps R (entry R row) x rest new) (tt {0})) brought
@@ -59,10 +59,10 @@ loop-s-preserved g c =
           let none : v ≡ R.zero = (g.met.S.Semiring.same v c.zero.result).0 (unequal _ c.ne.result w.if-ne.false c.ne.ensures) ∙ c.zero.ensures in
           let n : length next ≡ A.states = omega arith in
           let held : moved R (λ _. v) x (filter (λ u. u.from == s) A.transitions) next ≡ next
-              = ap (λ z. moved R (λ _. z) x (filter (λ u. u.from == s) A.transitions) next) none
-              ∙ zero_moved g.met.S.Semiring.laws g.met.S.Semiring.ranges x (filter (λ u. u.from == s) A.transitions) next (λ u i. subst (λ k. u.to < k) (sym n) (letter_move R A c.args.aut.now.sets c.automata_are_valid.ensures.moves c.requires.letters s u i).0.to) in
+          = ap (λ z. moved R (λ _. z) x (filter (λ u. u.from == s) A.transitions) next) none
+          ∙ zero_moved g.met.S.Semiring.laws g.met.S.Semiring.ranges x (filter (λ u. u.from == s) A.transitions) next (λ u i. subst (λ k. u.to < k) (sym n) (letter_move R A c.args.aut.now.sets c.automata_are_valid.ensures.moves c.requires.letters s u i).0.to) in
           let fit = ap (λ z. outcome R (move_steps R (λ _. z) x (filter (λ u. u.from == s) A.transitions) next) (tt {0})) none
-              ∙ zero_steps g.met.S.Semiring.laws g.met.S.Semiring.ranges x (filter (λ u. u.from == s) A.transitions) next c.loop-s.invariant.in_range (λ u i. let m = (letter_move R A c.args.aut.now.sets c.automata_are_valid.ensures.moves c.requires.letters s u i).0 in (subst (λ k. u.to < k) (sym n) m.to, m.weight)) in
+          ∙ zero_steps g.met.S.Semiring.laws g.met.S.Semiring.ranges x (filter (λ u. u.from == s) A.transitions) next c.loop-s.invariant.in_range (λ u i. let m = (letter_move R A c.args.aut.now.sets c.automata_are_valid.ensures.moves c.requires.letters s u i).0 in (subst (λ k. u.to < k) (sym n) m.to, m.weight)) in
           record {
             in_range = subst (InRange R) (sym w.next-is) c.loop-s.invariant.in_range;
             steps = ap (λ new. outcome R (move_steps R (entry R row) x rest new) (tt {0})) (w.next-is ∙ sym held)

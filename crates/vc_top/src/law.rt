@@ -1,0 +1,13 @@
+ghost use Rattle.std.specs.Prelude.{◌≡◌, ◌⊎◌, List, Option, Some};
+ghost use Rattle.vc_files.specs.Files.{Bytes, Held};
+ghost use Rattle.vc_top.specs.Answers.{Answer, Allows, IsFree};
+ghost use Rattle.vc_top.specs.Seen.{seen};
+ghost use Rattle.vc_top.specs.Words.{Request};
+
+/// Over files that tell their bytes, a request allows one answer alone, but for faults of reading and want of memory. So
+/// where the cause of a status stands, this status is answered, or one of these two.
+pub fn answers_are_determined()
+    ensures { (held : Held) (before after : List Bytes) (request : Option Request) (a b : Answer)
+        → Allows request (seen (Some held) before after) a → Allows request (seen (Some held) before after) b
+        → (IsFree a ⊎ IsFree b) ⊎ (a ≡ b) }
+{}
