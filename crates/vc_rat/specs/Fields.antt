@@ -33,6 +33,7 @@ magnitude-signed (negsuc n) b = magnitude-neg b
 pub negative-lowest : (t b : ℤ) → IsLowest t b → IsLowest (neg_ℤ t) b
 negative-lowest t b l = (l.0, ap (λ m. gcd_of m (unsigned_abs b)) (magnitude-neg t) ∙ l.1)
 
+-- the number with its sign turned
 abbrev pub negative : Fraction → Fraction
 negative x = record { top = neg_ℤ x.top; bottom = x.bottom; lowest = negative-lowest x.top x.bottom x.lowest }
 

@@ -81,9 +81,6 @@ behind-zero t b h k =
     let in4 = subst (λ n. IsTrue (in_range (pos n))) (sym fourth) k in
     and-both (tops_fit (pos 0) b t 1) (in_range (pos (1 * b))) (and-both (in_range (pos 0 *ℤ pos b)) (in_range (t *ℤ pos 1) && in_range (pos 0 *ℤ pos b +ℤ t *ℤ pos 1)) in1 (and-both (in_range (t *ℤ pos 1)) (in_range (pos 0 *ℤ pos b +ℤ t *ℤ pos 1)) in2 in3)) in4
 
-magnitude-in : (z : ℤ) → IsTrue (in_range z) → IsTrue (in_range (pos (unsigned_abs z)))
-magnitude-in z h = h
-
 plus_zero-fits : (x : Fraction) → IsTrue (holds x) → IsTrue (fits_plus x zero)
 plus_zero-fits x h =
     let b = denominator x in

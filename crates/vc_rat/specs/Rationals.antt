@@ -10,6 +10,7 @@ use Rattle.vc_rat.specs.declared.fraction.Fraction.{Fraction}
 abbrev pub denominator : Fraction → ℕ
 denominator x = unsigned_abs x.bottom
 
+-- it is not zero
 abbrev pub positive : (x : Fraction) → 0 < denominator x
 positive x = magnitude-positive x.bottom x.lowest.0
 
@@ -17,15 +18,19 @@ positive x = magnitude-positive x.bottom x.lowest.0
 abbrev pub reduced : ℤ → (d : ℕ) → 0 < d → Fraction
 reduced n d p = record { top = int_div n (pos (gcd_of (unsigned_abs n) d)); bottom = pos (d / gcd_of (unsigned_abs n) d); lowest = reduced-lowest n d p }
 
+-- the sum, in lowest terms
 abbrev pub plus : Fraction → Fraction → Fraction
 plus x y = reduced (x.top *ℤ pos (denominator y) +ℤ y.top *ℤ pos (denominator x)) (denominator x * denominator y) (positive-mul (denominator x) (denominator y) (positive x) (positive y))
 
+-- the product, in lowest terms
 abbrev pub times : Fraction → Fraction → Fraction
 times x y = reduced (x.top *ℤ y.top) (denominator x * denominator y) (positive-mul (denominator x) (denominator y) (positive x) (positive y))
 
+-- 0/1
 abbrev pub zero : Fraction
 zero = record { top = pos 0; bottom = pos 1; lowest = zero-lowest }
 
+-- 1/1
 abbrev pub one : Fraction
 one = record { top = pos 1; bottom = pos 1; lowest = one-lowest }
 
@@ -33,7 +38,7 @@ one = record { top = pos 1; bottom = pos 1; lowest = one-lowest }
 abbrev pub star : Fraction → Fraction
 star x = let d = unsigned_abs (x.bottom -ℤ x.top) in reduced x.bottom (max 1 d) (positive-max d)
 
--- no value has a top or a bottom past the range
+-- a value has its top and its bottom in range
 abbrev pub holds : Fraction → Bool
 holds x = in_range x.top && in_range x.bottom
 
@@ -49,6 +54,7 @@ parts_fit a b c d whole = tops_fit a d c b && in_range (pos (b * whole))
 abbrev pub fits_plus : Fraction → Fraction → Bool
 fits_plus x y = let g = gcd_of (denominator x) (denominator y) in parts_fit x.top (denominator x / g) y.top (denominator y / g) (denominator y)
 
+-- sums and products of any size, and a star between -1 and 1
 abbrev pub rationals : WeightSet Fraction
 rationals = record {
   zero = zero;

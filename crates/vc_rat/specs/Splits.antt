@@ -15,6 +15,7 @@ use Rattle.vc_rat.specs.RationalLaws.{rational_laws}
 use Rattle.vc_rat.specs.Rows.{first_other, row_times, normal_row, field_splits}
 use Rattle.vc_rat.specs.declared.fraction.Fraction.{Fraction}
 
+-- the top is zero
 abbrev pub is_zero : Fraction → Bool
 is_zero x = int_eq x.top (pos 0)
 

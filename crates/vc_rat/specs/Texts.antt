@@ -24,6 +24,7 @@ abbrev pub whole_of : List ℕ → Option ℤ
 whole_of [] = None
 whole_of (c ∷ text) = if c == 45 then option_map (λ n. neg_ℤ (pos n)) (numeral_of text) else option_map pos (numeral_of (c ∷ text))
 
+-- it is at most 2^127 - 1 in magnitude
 abbrev pub whole_fits : List ℕ → Bool
 whole_fits [] = true
 whole_fits (c ∷ text) = if c == 45 then numeral_fits text else numeral_fits (c ∷ text)
@@ -40,10 +41,12 @@ abbrev pub spelled_at : Option ℕ → List ℕ → Option Fraction
 spelled_at None text = quotient_of (whole_of text) (Some 1)
 spelled_at (Some at) text = quotient_of (whole_of (take at text)) (numeral_of (drop (suc at) text))
 
+-- and whether its numbers fit
 abbrev pub fits_at : Option ℕ → List ℕ → Bool
 fits_at None text = whole_fits text
 fits_at (Some at) text = whole_fits (take at text) && numeral_fits (drop (suc at) text)
 
+-- the place of the first `/`
 abbrev pub slash_in : List ℕ → Option ℕ
 slash_in text = position (λ c. c == 47) text
 

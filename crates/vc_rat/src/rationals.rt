@@ -14,7 +14,8 @@ use std::alloc::AllocError;
 use vc_num::checked_sub;
 use vc_ring::{NumberFault, Overflow, Semiring, StarFault};
 
-/// The rational numbers. The star of x is 1/(1 - x) where |x| < 1, and is not defined elsewhere.
+/// The rational numbers. The star of x is 1/(1 - x) where |x| < 1, the limit of the sums of its
+/// powers, and is not defined elsewhere (Sakarovitch, Elements of Automata Theory).
 ///
 /// The sum of a/b and c/d fits where a·(d/g), c·(b/g), their sum and (b/g)·d, for the greatest common
 /// divisor g of b and d, are at most 2^127 - 1 in magnitude; the product where its top and bottom in
