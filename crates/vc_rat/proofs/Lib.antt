@@ -1,0 +1,10 @@
+pub mod Crossed
+pub mod Division
+pub mod Inverses
+pub mod Multiplying
+pub mod Options
+pub mod Parted
+pub mod Readings
+pub mod Splitting
+pub mod Stars
+pub mod Steps

@@ -1,0 +1,15 @@
+pub mod Lowest
+pub mod Reduced
+pub mod Rationals
+pub mod Whole
+pub mod Stands
+pub mod RationalLaws
+pub mod Sums
+pub mod Products
+pub mod RationalRanges
+pub mod Texts
+pub mod TextLaws
+pub mod Equality
+pub mod Fields
+pub mod Rows
+pub mod Splits

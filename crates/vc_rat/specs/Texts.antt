@@ -1,0 +1,73 @@
+-- The texts of rational numbers.
+use Rattle.std.specs.Prelude.{ℕ, zero, suc, ◌==◌, ◌^◌, Bool, true, ◌&&◌, List, [], ◌∷◌, ◌++◌, take, drop, Option, None, Some, Result, Ok, Err, ℤ, pos, neg_ℤ, nat_lt, if◌then◌else◌}
+use Rattle.std.specs.Fmt.{signed_decimal}
+use Rattle.std.specs.List.{position}
+use Rattle.std.specs.Option.{option_map}
+use Rattle.std.specs.Ordering.{int_eq}
+use Rattle.vc_num.specs.Decimals.{is_numeral, number_of_digits}
+use Rattle.vc_ring.specs.declared.faults.NumberFault.{NumberFault}
+use Rattle.vc_ring.specs.declared.faults.NumberFault.TheVariants.{Bad, Overflow}
+use Rattle.vc_rat.specs.Reduced.{positive-suc}
+use Rattle.vc_rat.specs.Rationals.{reduced}
+use Rattle.vc_rat.specs.declared.fraction.Fraction.{Fraction}
+
+-- the number of one digit or more
+abbrev pub numeral_of : List ℕ → Option ℕ
+numeral_of text = if is_numeral text then Some (number_of_digits text) else None
+
+-- it is at most 2^127 - 1
+abbrev pub numeral_fits : List ℕ → Bool
+numeral_fits text = nat_lt (number_of_digits text) (2 ^ 127)
+
+-- the number that digits behind an optional `-` spell
+abbrev pub whole_of : List ℕ → Option ℤ
+whole_of [] = None
+whole_of (c ∷ text) = if c == 45 then option_map (λ n. neg_ℤ (pos n)) (numeral_of text) else option_map pos (numeral_of (c ∷ text))
+
+-- it is at most 2^127 - 1 in magnitude
+abbrev pub whole_fits : List ℕ → Bool
+whole_fits [] = true
+whole_fits (c ∷ text) = if c == 45 then numeral_fits text else numeral_fits (c ∷ text)
+
+-- top/bottom, where there are both and the bottom is not zero
+abbrev pub quotient_of : Option ℤ → Option ℕ → Option Fraction
+quotient_of None bottom = None
+quotient_of (Some n) None = None
+quotient_of (Some n) (Some zero) = None
+quotient_of (Some n) (Some (suc d)) = Some (reduced n (suc d) (positive-suc d))
+
+-- of a text whose first `/` is at the place, or that has none
+abbrev pub spelled_at : Option ℕ → List ℕ → Option Fraction
+spelled_at None text = quotient_of (whole_of text) (Some 1)
+spelled_at (Some at) text = quotient_of (whole_of (take at text)) (numeral_of (drop (suc at) text))
+
+-- and whether its numbers fit
+abbrev pub fits_at : Option ℕ → List ℕ → Bool
+fits_at None text = whole_fits text
+fits_at (Some at) text = whole_fits (take at text) && numeral_fits (drop (suc at) text)
+
+-- the place of the first `/`
+abbrev pub slash_in : List ℕ → Option ℕ
+slash_in text = position (λ c. c == 47) text
+
+-- the number of an optional `-`, digits, and optionally `/` and digits that are not all 0
+abbrev pub spelled_fraction : List ℕ → Option Fraction
+spelled_fraction text = spelled_at (slash_in text) text
+
+-- each of the one or two numbers is at most 2^127 - 1 in magnitude
+abbrev pub fraction_fits : List ℕ → Bool
+fraction_fits text = fits_at (slash_in text) text
+
+-- the top in decimal, and behind it `/` and the bottom where this is not 1
+abbrev pub fraction_text : Fraction → List ℕ
+fraction_text x = if int_eq x.bottom (pos 1) then signed_decimal x.top else signed_decimal x.top ++ (47 ∷ signed_decimal x.bottom)
+
+-- what a top and a bottom that were read make
+abbrev pub quotient_read : Result ℤ NumberFault → Result ℕ NumberFault → Result Fraction NumberFault
+quotient_read (Err Bad) bottom = Err Bad
+quotient_read (Err Overflow) (Err fault) = Err fault
+quotient_read (Err Overflow) (Ok zero) = Err Bad
+quotient_read (Err Overflow) (Ok (suc d)) = Err Overflow
+quotient_read (Ok n) (Err fault) = Err fault
+quotient_read (Ok n) (Ok zero) = Err Bad
+quotient_read (Ok n) (Ok (suc d)) = Ok (reduced n (suc d) (positive-suc d))
