@@ -1,7 +1,7 @@
 -- What lines add up to.
 use Rattle.std.proofs.Common.{◌≡◌, ◌<◌, ◌≤◌, ◌+◌, ℕ, zero, suc, List, [], ◌∷◌, ◌++◌, length, map, take, get_or, Bool, true, false, cond, inl, inr, refl, sym, ap, ap₂, ◌∙◌, subst, arith}
-use Rattle.std.specs.Prelude.{count_by, replicate, ◌||◌, ◌==◌, slice_set}
-use Rattle.std.specs.List.{filter, flat_map, list_any}
+use Rattle.std.specs.Prelude.{count_by, replicate, slice_set}
+use Rattle.std.specs.List.{flat_map}
 use Rattle.std.proofs.lemmas.List.{take_all, append-nil, append_assoc}
 use Rattle.std.proofs.lemmas.List.Filters.{length-filter_more}
 use Rattle.std.proofs.lemmas.List.Sums.{length-filter}
@@ -9,14 +9,14 @@ use Rattle.std.proofs.lemmas.Bool.{eq-eqb}
 use Rattle.vc_label.specs.declared.tape_set.TapeSet.{TapeSet}
 use Rattle.vc_model.specs.Lists.{In}
 use Rattle.vc_model.specs.WeightSet.{WeightSet, SemiringLaws}
-use Rattle.vc_model.specs.Automata.{Automaton, Transition}
+use Rattle.vc_model.specs.Automata.{Transition}
 use Rattle.vc_aut.specs.Drafts.{Draft, empty_draft, with_state, with_initial, with_final, with_transition}
 use Rattle.vc_aut.specs.Sums.{insert_transition, insert_all}
 use Rattle.vc_first.specs.Grammar.{Line, initial_at, final_at, moves}
 use Rattle.vc_first.specs.Automata.{names, is_state, digits_of, number_of, begins, ends, initial_sum, final_sum, transitions_by}
 use Rattle.vc_first.specs.Building.{number_in, letter_move, with_states, with_transitions, with_line, with_lines}
 use Rattle.vc_first.specs.Digits.{HasDigits, IsDigits}
-use Rattle.vc_first.proofs.Numbers.{count, count_more, number_below}
+use Rattle.vc_first.proofs.Numbers.{count_more, number_below}
 use Rattle.vc_first.proofs.Sums.{digit_at, digits_once, added_at, sum_more}
 
 -- the digits that are marked are those of the states

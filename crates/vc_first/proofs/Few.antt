@@ -1,11 +1,11 @@
 -- Lines give few transitions.
-use Rattle.std.proofs.Common.{◌≡◌, ◌<◌, ◌≤◌, ◌+◌, ◌*◌, ◌-◌, ℕ, zero, suc, List, [], ◌∷◌, length, map, get_or, Bool, true, IsTrue, All, refl, sym, ap, ap₂, ◌∙◌, inl, inr, subst, arith}
+use Rattle.std.proofs.Common.{◌≡◌, ◌<◌, ◌≤◌, ◌+◌, ◌*◌, ℕ, suc, List, [], ◌∷◌, length, map, get_or, true, IsTrue, All, refl, sym, ap, ◌∙◌, subst, arith}
 use Rattle.std.proofs.lemmas.Grind.{common_steps}
-use Rattle.vc_model.specs.Lists.{In, NoRepeat}
+use Rattle.vc_model.specs.Lists.{In}
 use Rattle.vc_model.specs.Words.{Word}
 use Rattle.vc_model.specs.Automata.{Transition, triple}
-use Rattle.vc_model.proofs.Members.{In-map_from, In-map, NoRepeat-map}
-use Rattle.vc_model.proofs.Pigeons.{no_more_than, same_place}
+use Rattle.vc_model.proofs.Members.{In-map_from, NoRepeat-map}
+use Rattle.vc_model.proofs.Pigeons.{no_more_than}
 use Rattle.vc_model.specs.WeightSet.{WeightSet}
 use Rattle.vc_label.specs.Alphabets.{has_letter}
 use Rattle.vc_label.specs.Letters.{is_letter}

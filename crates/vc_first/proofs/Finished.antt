@@ -1,18 +1,17 @@
 -- The automaton that lines make.
-use Rattle.std.proofs.Common.{◌≡◌, ◌<◌, ◌≤◌, ◌+◌, ℕ, List, [], ◌∷◌, length, map, get_or, Bool, true, false, refl, sym, ap, ◌∙◌, subst, arith}
+use Rattle.std.proofs.Common.{◌≡◌, ℕ, List, [], length, Bool, sym, ◌∙◌, subst, arith}
 use Rattle.std.specs.Prelude.{count_by}
 use Rattle.std.specs.List.{flat_map}
 use Rattle.vc_label.proofs.Order.{total, equal}
 use Rattle.vc_label.specs.Alphabets.{has_letter}
 use Rattle.vc_label.specs.declared.alphabet.Alphabet.{Alphabet}
 use Rattle.vc_label.specs.declared.tape_set.TapeSet.{TapeSet}
-use Rattle.vc_model.specs.Automata.{Automaton}
 use Rattle.vc_model.specs.Gathered.{IsGathered}
 use Rattle.vc_model.specs.Lists.{In, IsEqualityTest}
 use Rattle.vc_model.specs.WeightSet.{WeightSet, SemiringLaws}
 use Rattle.vc_aut.proofs.Added.{inserted_are_gathered}
-use Rattle.vc_aut.specs.Drafts.{Draft, empty_draft, finished, without_zeros}
-use Rattle.vc_first.specs.Automata.{names, is_state, digits_of, number_of, transitions_by, IsAutomatonOf}
+use Rattle.vc_aut.specs.Drafts.{empty_draft, finished, without_zeros}
+use Rattle.vc_first.specs.Automata.{digits_of, number_of, transitions_by, IsAutomatonOf}
 use Rattle.vc_first.specs.Building.{HasLetters, HasNumbers, IsSmall, letter_sets, number_in, with_states, with_lines}
 use Rattle.vc_first.specs.Digits.{HasDigits, IsDigits}
 use Rattle.vc_first.specs.Grammar.{Line, initial_at, final_at, moves, IsLine}

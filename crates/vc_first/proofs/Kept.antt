@@ -1,5 +1,5 @@
 -- What adding transitions keeps.
-use Rattle.std.proofs.Common.{◌≡◌, ℕ, suc, List, [], ◌∷◌, map, refl, sym, ap, ◌∙◌}
+use Rattle.std.proofs.Common.{◌≡◌, ℕ, suc, List, [], ◌∷◌, map, refl, ap, ◌∙◌}
 use Rattle.vc_model.specs.WeightSet.{WeightSet}
 use Rattle.vc_model.specs.Automata.{Transition}
 use Rattle.vc_aut.specs.Drafts.{Draft, with_state, with_transition}

@@ -1,14 +1,13 @@
 -- The numbers of states.
-use Rattle.std.proofs.Common.{◌≡◌, ◌<◌, ◌≤◌, ◌+◌, ◌-◌, ◌*◌, ℕ, zero, suc, List, [], ◌∷◌, ◌++◌, length, length-append, map, Bool, true, false, cond, ◌⊎◌, inl, inr, refl, sym, ap, ap₂, ◌∙◌, subst, arith}
+use Rattle.std.proofs.Common.{◌≡◌, ◌<◌, ◌≤◌, ◌+◌, ◌-◌, ℕ, zero, suc, List, [], ◌∷◌, length, length-append, map, Bool, true, false, cond, inl, inr, refl, sym, ap, ◌∙◌, subst, arith}
 use Rattle.std.specs.Prelude.{◌||◌, ◌==◌}
 use Rattle.std.specs.List.{filter, flat_map, list_any}
 use Rattle.std.proofs.lemmas.List.Elements.{filter-append}
 use Rattle.std.proofs.lemmas.Bool.{eq-eqb}
-use Rattle.vc_model.specs.Lists.{In, below, up_from}
+use Rattle.vc_model.specs.Lists.{In, below}
 use Rattle.vc_model.proofs.Members.{In-flat_map_from, In-map_from, up_from-more}
 use Rattle.vc_model.specs.WeightSet.{WeightSet, SemiringLaws}
 use Rattle.vc_model.specs.Automata.{Automaton, Transition, IsAutomaton, triple}
-use Rattle.vc_model.specs.Gathered.{IsGathered}
 use Rattle.vc_model.proofs.GatheredLaws.{gathered_from}
 use Rattle.vc_first.specs.Grammar.{Line, initial_at, final_at, moves, IsLine}
 use Rattle.vc_first.specs.Automata.{names, is_state, digits_of, number_of, transitions_by, IsAutomatonOf}

@@ -1,5 +1,5 @@
 -- Members by their places.
-use Rattle.std.proofs.Common.{◌≡◌, ◌<◌, ℕ, zero, suc, List, [], ◌∷◌, length, map, get_or, refl, inl, inr, arith}
+use Rattle.std.proofs.Common.{◌<◌, ℕ, zero, suc, List, [], ◌∷◌, length, map, get_or, refl, inl, inr, arith}
 use Rattle.vc_model.specs.Lists.{In}
 
 -- what stands at a place, seen through f

@@ -1,5 +1,5 @@
 -- Steps of the reader's loops.
-use Rattle.std.proofs.Common.{◌≡◌, ◌<◌, ◌≤◌, ◌==◌, zero, suc, refl, false, ◌-◌, ◌+◌, ℕ, List, [], ◌∷◌, ◌++◌, length, take, drop, get_or, true, ap, ap₂, ◌∙◌, sym, arith, Option, Some, None, Bool, if◌then◌else◌}
+use Rattle.std.proofs.Common.{◌≡◌, ◌<◌, ◌≤◌, ◌==◌, suc, refl, false, ◌-◌, ◌+◌, ℕ, List, [], ◌∷◌, length, take, drop, true, ap, ap₂, ◌∙◌, sym, arith, Bool, if◌then◌else◌}
 use Rattle.std.proofs.lemmas.List.{take_all, length-drop}
 use Rattle.vc_first.specs.Grammar.{lines_of, onto_first}
 use Rattle.vc_first.specs.Reading.{line_length}

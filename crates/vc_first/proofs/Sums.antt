@@ -1,13 +1,13 @@
 -- Sums over lines, one line more.
-use Rattle.std.proofs.Common.{◌≡◌, ◌≢◌, ◌⊎◌, ◌<◌, ◌+◌, ◌-◌, ℕ, zero, suc, List, [], ◌∷◌, ◌++◌, length, map, set, get_or, Bool, true, false, cond, eqb, inl, inr, refl, sym, ap, ap₂, ◌∙◌, subst, arith}
+use Rattle.std.proofs.Common.{◌≡◌, ◌≢◌, ◌⊎◌, ◌<◌, ◌+◌, ◌-◌, ℕ, zero, suc, List, [], ◌∷◌, ◌++◌, length, map, set, get_or, true, false, cond, eqb, inl, inr, refl, sym, ap, ap₂, ◌∙◌, subst, arith}
 use Rattle.std.specs.List.{filter}
 use Rattle.std.proofs.lemmas.List.Elements.{filter-append}
-use Rattle.std.proofs.lemmas.Bool.{eq-eqb, eqb-true}
+use Rattle.std.proofs.lemmas.Bool.{eq-eqb}
 use Rattle.std.proofs.lemmas.Bool.Decides.{eqb_tells}
 use Rattle.vc_model.specs.Lists.{In, NoRepeat, below, up_from}
 use Rattle.vc_model.specs.WeightSet.{WeightSet, SemiringLaws}
 use Rattle.vc_model.specs.Sums.{sum_over}
-use Rattle.vc_model.proofs.Members.{In-filter, NoRepeat-filter, NoRepeat-up_from, up_from-In}
+use Rattle.vc_model.proofs.Members.{NoRepeat-filter, NoRepeat-up_from}
 use Rattle.vc_model.proofs.SumLaws.{sum-append}
 use Rattle.vc_first.specs.Grammar.{Line}
 use Rattle.vc_first.specs.Automata.{is_state, digits_of, number_of}

@@ -1,5 +1,5 @@
 -- Whole files and word texts: what is read is spelled so, and what is spelled so is read.
-use Rattle.std.proofs.Common.{◌≡◌, ◌≢◌, ◌<◌, ◌≤◌, ◌+◌, ◌-◌, ◌==◌, ℕ, zero, suc, List, [], ◌∷◌, ◌++◌, length, map, take, drop, Option, None, Some, Bool, true, false, ◌&&◌, if◌then◌else◌, nat_le, refl, sym, ap, ap₂, ◌∙◌, inl, inr, subst, arith}
+use Rattle.std.proofs.Common.{◌≡◌, ◌≤◌, ◌+◌, ℕ, suc, List, [], ◌∷◌, ◌++◌, length, map, take, drop, Option, None, Some, Bool, true, false, ◌&&◌, if◌then◌else◌, nat_le, refl, sym, ap, ap₂, ◌∙◌, inl, inr, subst, arith}
 use Rattle.std.specs.Prelude.{codes}
 use Rattle.std.specs.Str.{bytes_eq}
 use Rattle.std.proofs.lemmas.Bool.{and_parts, and_from, leb-true, le-leb}
@@ -7,9 +7,9 @@ use Rattle.std.proofs.lemmas.List.{append_assoc, take-append-drop}
 use Rattle.std.proofs.Math.Seq.{take-append_seam}
 use lib.Pointwise.{bytes_decides}
 use Rattle.vc_model.specs.Lists.{In}
-use Rattle.vc_first.specs.Grammar.{is_plain, Line, line_text, IsLine, head_text, lines_of, Spells, word_text, SpellsWord, IsInput}
+use Rattle.vc_first.specs.Grammar.{is_plain, Line, line_text, IsLine, head_text, lines_of, word_text, SpellsWord, IsInput}
 use Rattle.vc_first.specs.Reading.{is_in, all_in, word_at, line_at, more_lines, lines_at, plain_length, context_front, context_end, alphabet_at, head_at, Input, with_word, with_head, input_of, input_at}
-use Rattle.vc_first.proofs.Spelling.{guarded, some_same, is_in-In, In-is_in, Spelled, line_sound, line_complete}
+use Rattle.vc_first.proofs.Spelling.{guarded, some_same, is_in-In, In-is_in, line_sound, line_complete}
 
 same_bytes : (a b : List ℕ) → bytes_eq a b ≡ true → a ≡ b
 same_bytes a b h = (bytes_decides a b).0 h

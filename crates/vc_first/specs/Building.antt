@@ -12,7 +12,7 @@ use Rattle.vc_ring.specs.declared.faults.MakeFault.{MakeFault}
 use Rattle.vc_ring.specs.declared.faults.MakeFault.TheVariants.{Overflow as Unfit, Limit, Memory}
 use Rattle.vc_ring.specs.declared.faults.Overflow.{Overflow}
 use Rattle.vc_ring.specs.declared.faults.Overflow.TheVariants.{Numeral, Add, Mul, Star}
-use Rattle.vc_first.specs.Automata.{names, transitions_by}
+use Rattle.vc_first.specs.Automata.{names}
 use Rattle.vc_first.specs.Grammar.{Line, initial_at, final_at, moves}
 
 -- labels of one letter of the alphabet

@@ -1,5 +1,5 @@
 -- Lines whose states are digits.
-use Rattle.std.specs.Prelude.{ℕ, ◌<◌, List}
+use Rattle.std.specs.Prelude.{◌<◌, List}
 use Rattle.vc_first.specs.Grammar.{Line, initial_at, final_at, moves}
 use Rattle.vc_model.specs.Lists.{In}
 

@@ -2,10 +2,9 @@
 use Rattle.std.proofs.Common.{◌≡◌, ◌⊎◌, ℕ, List, [], ◌∷◌, ◌++◌, Bool, Option, None, Some, Ok, Err, refl, sym, ap, ◌∙◌, inl, inr, subst, arith}
 use Rattle.vc_basic.specs.Truths.{truths, bit_text}
 use Rattle.vc_basic.specs.TruthLaws.{truth_laws}
-use Rattle.vc_files.specs.Files.{Bytes, Held, Holds}
+use Rattle.vc_files.specs.Files.{Bytes, Held}
 use Rattle.vc_files.proofs.OneFile.{one_file}
 use Rattle.vc_first.specs.Automata.{IsAutomatonOf}
-use Rattle.vc_first.specs.Grammar.{Line, IsInput}
 use Rattle.vc_first.proofs.OneSeries.{one_series}
 use Rattle.vc_first.proofs.Texts.{one_input}
 use Rattle.vc_model.specs.Automata.{Automaton}

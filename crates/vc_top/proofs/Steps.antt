@@ -1,5 +1,5 @@
 -- Evaluation by forward rows adds and multiplies, and does nothing else.
-use Rattle.std.proofs.Common.{◌≡◌, ℕ, List, [], ◌∷◌, map, Bool, true, false, refl, sym, ◌⊎◌, inl, inr, subst}
+use Rattle.std.proofs.Common.{◌≡◌, List, [], ◌∷◌, map, Bool, true, false, refl, sym, ◌⊎◌, inl, inr, subst}
 use Rattle.std.specs.List.{flat_map}
 use Rattle.vc_basic.specs.Truths.{truths}
 use Rattle.vc_eval.specs.Forward.{forward_steps, products_steps, products, row_factors, prefixes}

@@ -1,5 +1,5 @@
 -- How an answer reaches the sink.
-use Rattle.std.specs.Prelude.{◌≡◌, ℕ, Option, Ok, Err, Result}
+use Rattle.std.specs.Prelude.{◌≡◌, ℕ, Option, Ok, Err}
 use Rattle.std.specs.Io.KnownBytes.{Appends}
 use Rattle.vc_files.specs.Files.{Bytes}
 use Rattle.vc_files.specs.Sink.{Rose, AppendsFront}

@@ -1,4 +1,4 @@
-use Rattle.std.proofs.Common.{◌<◌, ◌∙◌, ap, sym, arith, length, slice_index_or}
+use Rattle.std.proofs.Common.{◌∙◌, ap, sym, arith, slice_index_or}
 use Rattle.std.specs.Prelude.{◌||◌, ◌==◌}
 use Rattle.vc_first.proofs.Alphabets.{plain_letter, member_at, in_more}
 use Rattle.vc_first.proofs.alphabet.alphabet_of.Goals as goal

@@ -1,9 +1,7 @@
-use Rattle.std.proofs.Common.{◌≡◌, arith, ℕ, List, map, Bool, ap, sym, subst, ◌∙◌}
-use Rattle.vc_label.specs.declared.tape_set.TapeSet.{TapeSet}
+use Rattle.std.proofs.Common.{arith, map, ap, sym, subst, ◌∙◌}
 use Rattle.vc_aut.specs.Drafts.{Draft, empty_draft, finished}
 use Rattle.vc_first.specs.Automata.{IsAutomatonOf}
 use Rattle.vc_first.specs.Building.{IsSmall, number_in, with_states, with_lines}
-use Rattle.vc_first.specs.Grammar.{Line}
 use Rattle.vc_first.specs.View.{view}
 use Rattle.vc_first.proofs.Added.{IsMarked, marks_counted, has_states}
 use Rattle.vc_first.proofs.Numbers.{few_digits}

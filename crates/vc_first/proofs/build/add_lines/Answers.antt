@@ -1,4 +1,4 @@
-use Rattle.std.proofs.Common.{◌≡◌, ◌<◌, ℕ, arith, length, slice_index_or, subst, sym}
+use Rattle.std.proofs.Common.{◌<◌, arith, slice_index_or, subst, sym}
 use Rattle.vc_first.specs.Building.{number_in}
 use Rattle.vc_first.specs.View.{view}
 use Rattle.vc_first.specs.declared.line.Line.TheVariants.{Initial}

@@ -1,5 +1,5 @@
-use Rattle.std.proofs.Common.{◌≡◌, ◌<◌, ◌+◌, ◌-◌, ℕ, suc, ◌∙◌, sym, ap, arith}
-use Rattle.vc_aut.specs.Drafts.{Draft, with_state}
+use Rattle.std.proofs.Common.{◌≡◌, ◌+◌, ◌-◌, suc, ◌∙◌, sym, ap, arith}
+use Rattle.vc_aut.specs.Drafts.{with_state}
 use Rattle.vc_first.specs.Building.{with_states}
 use Rattle.vc_first.proofs.Kept.{states_more}
 use Rattle.vc_first.proofs.build.add_states.Goals as goal

@@ -1,4 +1,4 @@
-use Rattle.std.proofs.Common.{◌≡◌, ℕ, List, map, Option, None, Some, sym, rules}
+use Rattle.std.proofs.Common.{◌≡◌, map, None, Some, sym, rules}
 use Rattle.vc_first.specs.Reading.{Input, input_at}
 use Rattle.vc_first.specs.View.{view}
 use Rattle.vc_first.proofs.Texts.{input_sound, refused}

@@ -1,9 +1,3 @@
-use Rattle.std.proofs.Common.{[], ◌∷◌, subst, sym}
-use Rattle.std.specs.Prelude.{Err}
-use Rattle.vc_basic.specs.Truths.{truths}
-use Rattle.vc_eval.specs.Forward.{forward_steps}
-use Rattle.vc_model.specs.Automata.{coefficient}
-use Rattle.vc_ring.specs.Steps.{IsOutcome}
 use Rattle.vc_label.specs.Borrowed.{word_of}
 use Rattle.vc_top.proofs.Steps.{truths_fit}
 use Rattle.vc_top.proofs.answer.coefficient_text.Goals as goal

@@ -1,9 +1,8 @@
-use Rattle.std.proofs.Common.{◌≡◌, ℕ, List, map, subst, rules}
+use Rattle.std.proofs.Common.{map, subst, rules}
 use Rattle.vc_basic.specs.Truths.{truths}
 use Rattle.vc_first.specs.Automata.{IsAutomatonOf}
 use Rattle.vc_first.specs.Grammar.{IsInput}
 use Rattle.vc_first.specs.View.{view}
-use Rattle.vc_first.specs.Views.{IsRead}
 use Rattle.vc_model.specs.Lists.{In}
 use Rattle.vc_top.proofs.Inputs.{input_letters}
 use Rattle.vc_top.proofs.answer.evaluation.Goals as goal
