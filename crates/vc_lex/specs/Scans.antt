@@ -101,3 +101,9 @@ token_from Line x s = option_map_or (λ width. Found Run (front letter_width (x 
 abbrev pub token_at : Mode → List ℕ → Scan
 token_at mode [] = End
 token_at mode (x ∷ s) = token_from mode x s
+
+-- how many bytes the token has that was found, or 0
+abbrev pub width_found : Scan → ℕ
+width_found End = 0
+width_found Bad = 0
+width_found (Found kind width) = width
