@@ -1,5 +1,5 @@
 -- Tokens lie within their texts.
-use Rattle.std.proofs.Common.{◌≡◌, ℕ, suc, ◌+◌, ◌-◌, ◌<◌, ◌≤◌, ◌&&◌, Bool, true, false, List, [], ◌∷◌, length, drop, Option, Some, None, refl, ap, sym, ◌∙◌, subst, arith, length-drop}
+use Rattle.std.proofs.Common.{◌≡◌, ℕ, suc, ◌+◌, ◌-◌, ◌<◌, ◌≤◌, ◌&&◌, Bool, true, false, List, [], ◌∷◌, length, take, drop, Option, Some, None, refl, ap, sym, ◌∙◌, subst, arith, length-drop, length-take}
 use Rattle.std.proofs.lemmas.Grind.{common_steps}
 use Rattle.std.proofs.lemmas.List.Sums.{prefix_len-le-length}
 use Rattle.std.specs.Prelude.{if◌then◌else◌, nat_le, ◌==◌}
@@ -91,6 +91,10 @@ width_found-token_at Line (x ∷ s) =
     let rest : Within (length (x ∷ s)) (line_token x s) = omega (arith, line_within x s) in
     run_or_within (x ∷ s) (line_token x s) rest (letter_width (x ∷ s))
 
--- and so does the answer of the scanner
-pub token_within : (mode : Mode) (s : List ℕ) (scan : Scan) → scan ≡ token_at mode s → width_found scan ≤ length s
-token_within mode s scan e = subst (λ (v : Scan). width_found v ≤ length s) (sym e) (width_found-token_at mode s)
+pub found_within : (mode : Mode) (s : List ℕ) (scan : Scan) (kind : TokenKind) (width : ℕ) → scan ≡ token_at mode s → scan ≡ Found kind width → width ≤ length s
+found_within mode s scan kind width e f =
+    subst (λ (v : Scan). width_found v ≤ length s) (sym e ∙ f) (width_found-token_at mode s)
+
+-- a count of bytes of the rest of a text
+pub count_within : (s : List ℕ) (at n : ℕ) → at ≤ length s → n ≤ length (take (length s - at) (drop at s)) → at + n ≤ length s
+count_within s at n below within = omega (arith, length-take {A = ℕ}, length-drop {A = ℕ})

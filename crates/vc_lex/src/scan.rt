@@ -1,5 +1,5 @@
 ghost use Rattle.std.specs.Prelude.{◌≡◌, ◌≤◌, ◌+◌, ◌^◌, ◌<◌, length, Some, None};
-ghost use Rattle.vc_lex.specs.Scans.{positive, class_body, enclosed, begins_with, common_token, expression_token, line_token, token_at, width_found};
+ghost use Rattle.vc_lex.specs.Scans.{positive, class_body, enclosed, begins_with, common_token, expression_token, line_token, token_at};
 
 use crate::fronts::{items_in_front, letter_width, letters_in_front, name_in_front, weight_in_front};
 use crate::token::{Mode, TokenKind};
@@ -99,10 +99,8 @@ fn begins_with(byte: u8, text: &[u8]) -> bool
 }
 
 /// What begins the text. A letter or a run comes first, since no other token begins with a letter.
-#[tactic(auto, using(crate::proofs::Bounds::token_within))]
 pub fn token_at(mode: Mode, text: &[u8]) -> Scan
-    ensures value { result ≡ token_at mode text.now }
-    ensures within { width_found result ≤ length text.now }
+    ensures { result ≡ token_at mode text.now }
 {
     let [first, rest @ ..] = text else {
         return Scan::End;
