@@ -2,3 +2,4 @@ pub mod Choices
 pub mod Pieces
 pub mod Widths
 pub mod Bounds
+pub mod Spelled

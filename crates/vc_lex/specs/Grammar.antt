@@ -1,5 +1,5 @@
 -- The texts of tokens, by cases.
-use Rattle.std.specs.Prelude.{◌≡◌, ◌≢◌, ℕ, ◌≤◌, ◌<◌, ◌⊎◌, Bool, true, ◌&&◌, not, nat_le, ◌==◌, List, [], ◌∷◌, ◌++◌, codes}
+use Rattle.std.specs.Prelude.{◌≡◌, ◌≢◌, ℕ, ◌≤◌, ◌<◌, ◌⊎◌, Bool, true, ◌&&◌, not, nat_le, ◌==◌, List, [], ◌∷◌, ◌++◌, codes, length, take, drop}
 use Rattle.std.specs.List.{list_all}
 use Rattle.vc_lex.specs.Letters.{is_plain, is_escaped}
 use Rattle.vc_lex.specs.declared.token.Mode.{Mode}
@@ -58,27 +58,27 @@ abbrev pub IsNamePart : List ℕ → Type 0
 IsNamePart text = ((x : ℕ) × (is_name_byte x ≡ true) × (text ≡ x ∷ [])) ⊎ ((text ≡ 92 ∷ 34 ∷ []) ⊎ (text ≡ 92 ∷ 92 ∷ []))
 
 -- the texts of the tokens of each kind
-abbrev pub IsTokenText : Mode → TokenKind → List ℕ → Type 0
-IsTokenText Expression Zero text = text ≡ codes "\\z"
-IsTokenText mode One text = text ≡ codes "\\e"
-IsTokenText Expression Letter text = IsLetter text
-IsTokenText Line Run text = Several IsLetter text × (text ≢ [])
-IsTokenText mode Quoted text = Between 39 (Several IsLetter) 39 text
-IsTokenText mode Class text = Between 91 IsClassBody 93 text
-IsTokenText mode Weight text = Between 60 IsWeightBody 62 text
-IsTokenText Expression Star text = text ≡ codes "*"
-IsTokenText Expression And text = text ≡ codes "&"
-IsTokenText Expression Shuffle text = text ≡ codes ":"
-IsTokenText Expression Plus text = text ≡ codes "+"
-IsTokenText Expression Left text = text ≡ codes "("
-IsTokenText Expression Right text = text ≡ codes ")"
-IsTokenText mode Bar text = text ≡ codes "|"
-IsTokenText Line Arrow text = text ≡ codes "->"
-IsTokenText Line Comma text = text ≡ codes ","
-IsTokenText Line Dollar text = text ≡ codes "$"
-IsTokenText Line Equals text = text ≡ codes "="
-IsTokenText Line Name text = Between 34 (Several IsNamePart) 34 text
-IsTokenText mode kind text = ⊥
+abbrev pub IsTokenText : TokenKind → Mode → List ℕ → Type 0
+IsTokenText Zero Expression text = text ≡ codes "\\z"
+IsTokenText One mode text = text ≡ codes "\\e"
+IsTokenText Letter Expression text = IsLetter text
+IsTokenText Run Line text = Several IsLetter text × (text ≢ [])
+IsTokenText Quoted mode text = Between 39 (Several IsLetter) 39 text
+IsTokenText Class mode text = Between 91 IsClassBody 93 text
+IsTokenText Weight mode text = Between 60 IsWeightBody 62 text
+IsTokenText Star Expression text = text ≡ codes "*"
+IsTokenText And Expression text = text ≡ codes "&"
+IsTokenText Shuffle Expression text = text ≡ codes ":"
+IsTokenText Plus Expression text = text ≡ codes "+"
+IsTokenText Left Expression text = text ≡ codes "("
+IsTokenText Right Expression text = text ≡ codes ")"
+IsTokenText Bar mode text = text ≡ codes "|"
+IsTokenText Arrow Line text = text ≡ codes "->"
+IsTokenText Comma Line text = text ≡ codes ","
+IsTokenText Dollar Line text = text ≡ codes "$"
+IsTokenText Equals Line text = text ≡ codes "="
+IsTokenText Name Line text = Between 34 (Several IsNamePart) 34 text
+IsTokenText kind mode text = ⊥
 
 -- no token goes on behind this one: behind a run no letter begins
 abbrev pub EndsBefore : TokenKind → List ℕ → Type 0
@@ -89,3 +89,9 @@ EndsBefore kind rest = Unit {0}
 abbrev pub IsComment : Mode → List ℕ → Type 0
 IsComment Line text = (rest : List ℕ) × ((text ≡ codes "#" ++ rest) ⊎ (text ≡ codes "//" ++ rest))
 IsComment Expression text = ⊥
+
+-- a token of this kind and width begins a text
+pub record BeginsToken (mode : Mode) (text : List ℕ) (kind : TokenKind) (width : ℕ) : Type 0 where
+  pub within : width ≤ length text
+  pub is_token : IsTokenText kind mode (take width text)
+  pub ends : EndsBefore kind (drop width text)

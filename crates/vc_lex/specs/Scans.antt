@@ -1,10 +1,10 @@
 -- What the scanner answers at a place, from the bytes from there on.
-use Rattle.std.specs.Prelude.{ℕ, ◌+◌, Bool, false, ◌||◌, ◌&&◌, nat_le, ◌==◌, List, [], ◌∷◌, drop, Option, Some, None, if◌then◌else◌}
+use Rattle.std.specs.Prelude.{◌≡◌, ◌⊎◌, ℕ, ◌+◌, Bool, false, ◌||◌, ◌&&◌, nat_le, ◌==◌, List, [], ◌∷◌, drop, Option, Some, None, if◌then◌else◌}
 use Rattle.std.specs.Option.{option_map, option_map_or, option_and_then}
 use Rattle.std.specs.List.{prefix_len}
 use Rattle.vc_lex.specs.Letters.{letter_in}
 use Rattle.vc_lex.specs.Fronts.{front}
-use Rattle.vc_lex.specs.Grammar.{is_weight_byte, is_name_byte}
+use Rattle.vc_lex.specs.Grammar.{is_weight_byte, is_name_byte, BeginsToken, IsComment}
 use Rattle.vc_lex.specs.declared.letters.LetterAt.{LetterAt}
 use Rattle.vc_lex.specs.declared.token.Mode.{Mode}
 use Rattle.vc_lex.specs.declared.token.Mode.TheVariants.{Expression, Line}
@@ -107,3 +107,9 @@ abbrev pub width_found : Scan → ℕ
 width_found End = 0
 width_found Bad = 0
 width_found (Found kind width) = width
+
+-- a token that was found begins the text by the grammar, and where the end was found there is nothing or a comment
+abbrev pub Follows : Mode → List ℕ → Scan → Type 0
+Follows mode s End = (s ≡ []) ⊎ IsComment mode s
+Follows mode s Bad = Unit {0}
+Follows mode s (Found kind width) = BeginsToken mode s kind width

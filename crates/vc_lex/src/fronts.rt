@@ -34,7 +34,11 @@ fn item_width(text: &[u8]) -> Option<usize>
         return Some(first.after);
     };
     let last = letter_in(first.after + 1, rest)?;
-    if first.letter <= last.letter { Some(last.after) } else { None }
+    if first.letter <= last.letter {
+        Some(last.after)
+    } else {
+        None
+    }
 }
 
 // How many bytes the items at the front of the text have.
@@ -83,7 +87,9 @@ pub fn weight_in_front(text: &[u8]) -> usize
     ensures value { result ≡ prefix_len is_weight_byte text.now }
     ensures within { result ≤ length text.now }
 {
-    text.iter().take_while(|x| **x != b'<' && **x != b'>' && **x != b'\n').count()
+    text.iter()
+        .take_while(|x| **x != b'<' && **x != b'>' && **x != b'\n')
+        .count()
 }
 
 // How many blanks stand at the front of the text.
@@ -91,5 +97,7 @@ pub fn blanks_in_front(text: &[u8]) -> usize
     ensures value { result ≡ prefix_len is_blank text.now }
     ensures within { result ≤ length text.now }
 {
-    text.iter().take_while(|x| **x == b' ' || **x == b'\t').count()
+    text.iter()
+        .take_while(|x| **x == b' ' || **x == b'\t')
+        .count()
 }

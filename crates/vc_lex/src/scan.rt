@@ -1,7 +1,9 @@
 ghost use Rattle.std.specs.Prelude.{◌≡◌, ◌≤◌, ◌+◌, ◌^◌, ◌<◌, length, Some, None};
 ghost use Rattle.vc_lex.specs.Scans.{positive, class_body, enclosed, begins_with, common_token, expression_token, line_token, token_at};
 
-use crate::fronts::{items_in_front, letter_width, letters_in_front, name_in_front, weight_in_front};
+use crate::fronts::{
+    items_in_front, letter_width, letters_in_front, name_in_front, weight_in_front,
+};
 use crate::token::{Mode, TokenKind};
 
 /// What begins a text.
@@ -50,7 +52,12 @@ fn common_token(first: u8, rest: &[u8]) -> Scan
         b'|' => Scan::Found(TokenKind::Bar, 1),
         b'\'' => enclosed(TokenKind::Quoted, Some(letters_in_front(rest)), b'\'', rest),
         b'[' => enclosed(TokenKind::Class, class_body(rest), b']', rest),
-        b'<' => enclosed(TokenKind::Weight, positive(weight_in_front(rest)), b'>', rest),
+        b'<' => enclosed(
+            TokenKind::Weight,
+            positive(weight_in_front(rest)),
+            b'>',
+            rest,
+        ),
         b'\\' if begins_with(b'e', rest) => Scan::Found(TokenKind::One, 2),
         _ => Scan::Bad,
     }

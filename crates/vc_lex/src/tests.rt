@@ -28,7 +28,10 @@ fn texts_are_cut_into_tokens(rt: HostRuntime) -> Result<(), Fail> {
     let mut lexer = Lexer::new(b"a%", Mode::Expression);
     let token = lexer.next().ok_or("no token")?.ok().ok_or("a bad byte")?;
     assert_eq!(rt; token.at, 0);
-    assert_eq!(rt; lexer.next().ok_or("no answer")?.err(), Some(BadByte { at: 1 }));
+    assert_eq!(rt;
+        lexer.next().ok_or("no answer")?.err(),
+        Some(BadByte { at: 1 })
+    );
     assert!(rt; lexer.next().is_none());
     Ok(())
 }

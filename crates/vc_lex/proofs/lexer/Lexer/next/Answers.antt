@@ -15,7 +15,7 @@ within_rest c =
 within_source : (c : In-Found) → c.self.inside.at + c.blanks_in_front.result + c.in-Found.width ≤ length c.self.inside.source.now
 within_source c =
     let start : c.self.inside.at + c.blanks_in_front.result ≤ length c.self.inside.source.now =
-        count_within c.self.inside.source.now c.self.inside.at c.blanks_in_front.result c.self.invariant c.blanks_in_front.ensures.within in
+    count_within c.self.inside.source.now c.self.inside.at c.blanks_in_front.result c.self.invariant c.blanks_in_front.ensures.within in
     count_within c.self.inside.source.now (c.self.inside.at + c.blanks_in_front.result) c.in-Found.width start (within_rest c)
 
 pub slice_bounds-token-end : goal.slice_bounds-token-end
