@@ -1,19 +1,18 @@
 -- Tokens lie within their texts.
-use Rattle.std.proofs.Common.{◌≡◌, ℕ, suc, ◌+◌, ◌-◌, ◌<◌, ◌≤◌, ◌&&◌, Bool, true, false, List, [], ◌∷◌, length, take, drop, Option, Some, None, refl, ap, sym, ◌∙◌, subst, arith, length-drop, length-take}
+use Rattle.std.proofs.Common.{◌≡◌, ℕ, ◌+◌, ◌-◌, ◌<◌, ◌≤◌, ◌&&◌, Bool, true, false, List, [], ◌∷◌, length, take, drop, Option, Some, None, refl, sym, ◌∙◌, subst, arith, length-drop, length-take}
 use Rattle.std.proofs.lemmas.Grind.{common_steps}
-use Rattle.std.proofs.lemmas.List.Sums.{prefix_len-le-length}
-use Rattle.std.specs.Prelude.{if◌then◌else◌, nat_le, ◌==◌}
+use Rattle.std.specs.Prelude.{◌==◌}
 use Rattle.std.specs.Option.{option_map_or}
 use Rattle.std.specs.List.{prefix_len}
 use Rattle.vc_lex.specs.Grammar.{is_weight_byte}
 use Rattle.vc_lex.specs.Fronts.{front}
-use Rattle.vc_lex.specs.Scans.{begins_with, letter_width, item_width, name_width, positive, class_body, enclosed, common_token, expression_token, line_token, token_from, token_at, width_found}
+use Rattle.vc_lex.specs.Scans.{begins_with, letter_width, name_width, positive, class_body, enclosed, common_token, expression_token, line_token, token_at, width_found}
 use Rattle.vc_lex.specs.declared.token.Mode.{Mode}
 use Rattle.vc_lex.specs.declared.token.Mode.TheVariants.{Expression, Line}
 use Rattle.vc_lex.specs.declared.token.TokenKind.{TokenKind}
 use Rattle.vc_lex.specs.declared.token.TokenKind.TheVariants.{Zero, One, Quoted, Class, Weight, Arrow, Name, Letter, Run}
 use Rattle.vc_lex.specs.declared.scan.Scan.{Scan}
-use Rattle.vc_lex.specs.declared.scan.Scan.TheVariants.{End, Bad, Found}
+use Rattle.vc_lex.specs.declared.scan.Scan.TheVariants.{Bad, Found}
 use Rattle.vc_lex.proofs.Choices.{chosen, at_common, at_expression, at_line}
 use Rattle.vc_lex.proofs.Pieces.{front-le}
 use Rattle.vc_lex.proofs.Widths.{letters_shrink}

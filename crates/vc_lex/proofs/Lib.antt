@@ -3,3 +3,5 @@ pub mod Pieces
 pub mod Widths
 pub mod Bounds
 pub mod Spelled
+pub mod Begun
+pub mod Sound

@@ -1,5 +1,5 @@
 -- Pieces one behind another: how far they go, and what they are.
-use Rattle.std.proofs.Common.{◌≡◌, ℕ, zero, suc, ◌+◌, ◌-◌, ◌<◌, ◌≤◌, List, length, take, drop, Option, Some, None, refl, ap, sym, ◌∙◌, arith, add-zero, length-drop}
+use Rattle.std.proofs.Common.{◌≡◌, ℕ, zero, suc, ◌+◌, ◌-◌, ◌<◌, ◌≤◌, List, length, take, drop, Option, Some, None, refl, ap, sym, ◌∙◌, arith, length-drop}
 use Rattle.std.specs.Option.{option_map_or}
 use Rattle.std.proofs.lemmas.Grind.{common_steps}
 use Rattle.vc_lex.specs.Fronts.{front, front_by}
@@ -27,7 +27,7 @@ same_more width n m s same shrinks below_n below_m (Some w) e =
     let some = shrinks.some s w e in
     ap (λ k. w + k) (same w (omega (arith, length-drop w s)) (omega (arith, length-drop w s)))
 
-none_of_empty : (width : List ℕ → Option ℕ) (s : List ℕ) → Shrinks width → length s ≤ 0 → (o : Option ℕ) → width s ≡ o → o ≡ None
+pub none_of_empty : (width : List ℕ → Option ℕ) (s : List ℕ) → Shrinks width → length s ≤ 0 → (o : Option ℕ) → width s ≡ o → o ≡ None
 none_of_empty width s shrinks empty None e = refl
 none_of_empty width s shrinks empty (Some w) e =
     let some = shrinks.some s w e in
@@ -63,7 +63,7 @@ front_by-le width (suc n) s shrinks = within_more width n s (λ w. front_by-le w
 pub front-le : (width : List ℕ → Option ℕ) (s : List ℕ) → Shrinks width → front width s ≤ length s
 front-le width s shrinks = front_by-le width (length s) s shrinks
 
-drop_twice : (i j : ℕ) (s : List ℕ) → drop j (drop i s) ≡ drop (i + j) s
+pub drop_twice : (i j : ℕ) (s : List ℕ) → drop j (drop i s) ≡ drop (i + j) s
 drop_twice i j s = grind (arith, common_steps)
 
 -- a loop over the pieces: one more

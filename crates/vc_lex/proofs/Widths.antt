@@ -1,10 +1,8 @@
 -- Letters, items and parts of names have at least one byte, and lie within their texts.
-use Rattle.std.proofs.Common.{◌≡◌, ℕ, ◌+◌, ◌<◌, ◌≤◌, ◌&&◌, ◌||◌, ◌-◌, Bool, true, false, List, [], ◌∷◌, length, drop, Option, Some, None, refl, arith, length-drop}
+use Rattle.std.proofs.Common.{◌≡◌, ℕ, ◌+◌, ◌<◌, ◌≤◌, List, [], ◌∷◌, length, Some, arith}
 use Rattle.std.proofs.lemmas.Grind.{common_steps}
-use Rattle.std.specs.Prelude.{if◌then◌else◌, nat_le, ◌==◌}
-use Rattle.vc_lex.specs.Letters.{is_plain, is_escaped, letter_in}
-use Rattle.vc_lex.specs.Grammar.{is_name_byte}
-use Rattle.vc_lex.specs.Scans.{letter_width, item_width, item_behind, range_width, name_width}
+use Rattle.vc_lex.specs.Letters.{letter_in}
+use Rattle.vc_lex.specs.Scans.{letter_width, item_width, item_behind, name_width}
 use Rattle.vc_lex.specs.declared.letters.LetterAt.{LetterAt}
 use Rattle.vc_lex.proofs.Pieces.{Shrinks}
 

@@ -1,5 +1,5 @@
 -- The texts of tokens, by cases.
-use Rattle.std.specs.Prelude.{◌≡◌, ◌≢◌, ℕ, ◌≤◌, ◌<◌, ◌⊎◌, Bool, true, ◌&&◌, not, nat_le, ◌==◌, List, [], ◌∷◌, ◌++◌, codes, length, take, drop}
+use Rattle.std.specs.Prelude.{◌≡◌, ◌≢◌, ℕ, ◌≤◌, ◌⊎◌, Bool, true, ◌&&◌, not, nat_le, ◌==◌, List, [], ◌∷◌, ◌++◌, codes, length, take, drop}
 use Rattle.std.specs.List.{list_all}
 use Rattle.vc_lex.specs.Letters.{is_plain, is_escaped}
 use Rattle.vc_lex.specs.declared.token.Mode.{Mode}

@@ -1,5 +1,5 @@
 -- The state of a lexer, and one step of it.
-use Rattle.std.specs.Prelude.{◌≡◌, ℕ, ◌+◌, Bool, true, false, List, drop, length, slice_range, Option, Some, None, Result, Ok, Err}
+use Rattle.std.specs.Prelude.{◌≡◌, ℕ, ◌+◌, Bool, true, List, drop, slice_range, Option, Some, None, Result, Ok, Err}
 use Rattle.std.specs.List.{prefix_len}
 use Rattle.vc_lex.specs.Scans.{is_blank, token_at}
 use Rattle.vc_lex.specs.declared.token.Mode.{Mode}

@@ -1,6 +1,9 @@
-ghost use Rattle.std.specs.Prelude.{◌≡◌, ℕ, List};
-ghost use Rattle.vc_lex.specs.Grammar.{IsLetter};
+ghost use Rattle.std.specs.Prelude.{ℕ, List};
+ghost use Rattle.vc_lex.specs.Scans.{token_at, Follows};
+ghost use Rattle.vc_lex.specs.declared.token.Mode.{Mode};
 
-/// Tokens and the grammar of their texts.
-#[tactic(auto, using(crate::proofs::Spelled::reads_letter))]
-pub fn tokens_follow_the_grammar() {}
+/// What begins a text, by the grammar of tokens.
+#[tactic(auto, using(crate::proofs::Sound::follows))]
+pub fn tokens_follow_the_grammar()
+    ensures { (mode : Mode) (text : List ℕ) → Follows mode text (token_at mode text) }
+{}

@@ -1,5 +1,4 @@
-use Rattle.std.proofs.Common.{◌≡◌, ℕ, ◌+◌, ◌-◌, ◌<◌, ◌^◌, ◌≤◌, length, drop, take, sym, arith, rules, length-take-le}
-use Rattle.vc_lex.specs.Scans.{token_at}
+use Rattle.std.proofs.Common.{◌+◌, ◌-◌, ◌≤◌, length, drop, take, sym, rules, length-take-le}
 use Rattle.vc_lex.proofs.Bounds.{found_within, count_within}
 use Rattle.vc_lex.proofs.lexer.Lexer.next.Goals as goal
 use Rattle.vc_lex.proofs.lexer.Lexer.next.Goals.{In-Found}
