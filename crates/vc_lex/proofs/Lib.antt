@@ -5,3 +5,4 @@ pub mod Bounds
 pub mod Spelled
 pub mod Begun
 pub mod Sound
+pub mod Fitting
