@@ -1,19 +1,18 @@
 -- Pieces of the grammar are read whole, whatever stands behind them.
-use Rattle.std.proofs.Common.{◌≡◌, ◌≢◌, ℕ, zero, suc, ◌+◌, ◌-◌, ◌<◌, ◌≤◌, ◌&&◌, ◌||◌, ◌⊎◌, Bool, true, false, List, [], ◌∷◌, ◌++◌, length, drop, Option, Some, None, refl, ap, sym, ◌∙◌, subst, inl, inr, arith, append_assoc, length-append}
+use Rattle.std.proofs.Common.{◌≡◌, ◌≢◌, ℕ, ◌+◌, ◌<◌, ◌≤◌, ◌&&◌, ◌||◌, Bool, true, false, List, [], ◌∷◌, ◌++◌, length, drop, Option, Some, None, refl, ap, sym, ◌∙◌, subst, inl, inr, arith, append_assoc, length-append}
 use Rattle.std.proofs.Math.Seq.{drop-append_seam}
-use Rattle.std.proofs.lemmas.Grind.{common_steps}
 use Rattle.std.proofs.lemmas.Bool.Decides.{nat_tests}
 use Rattle.std.specs.Prelude.{if◌then◌else◌, nat_le, ◌==◌}
-use Rattle.std.specs.Option.{option_map, option_map_or, option_and_then}
+use Rattle.std.specs.Option.{option_and_then}
 use Rattle.std.specs.List.{prefix_len, list_all}
 use Rattle.std.proofs.lemmas.Bool.{eqb-true}
-use Rattle.vc_lex.specs.Letters.{is_plain, is_escaped, letter_in}
+use Rattle.vc_lex.specs.Letters.{is_plain}
 use Rattle.vc_lex.specs.Fronts.{front}
-use Rattle.vc_lex.specs.Grammar.{SpellsLetter, IsLetter, joined, Each, Several, IsItem, IsClassBody, IsWeightBody, IsNamePart, is_weight_byte, is_name_byte}
+use Rattle.vc_lex.specs.Grammar.{SpellsLetter, IsLetter, joined, Each, Several, IsItem, IsClassBody, IsNamePart, is_weight_byte, is_name_byte}
 use Rattle.vc_lex.specs.Scans.{begins_with, letter_width, range_width, item_behind, item_width, name_width, positive, class_body}
 use Rattle.vc_lex.specs.declared.letters.LetterAt.{LetterAt}
 use Rattle.vc_lex.proofs.Pieces.{Shrinks, front-none, front-some}
-use Rattle.vc_lex.proofs.Widths.{letters_shrink, items_shrink, names_shrink}
+use Rattle.vc_lex.proofs.Widths.{items_shrink}
 use Rattle.vc_lex.proofs.Begun.{letter_read, letter_begins}
 
 -- pieces that are read whole where C holds of what stands behind them
@@ -35,7 +34,7 @@ module _ {P C : List ℕ → Type 0} {width : List ℕ → Option ℕ} (fits : F
       let behind : List ℕ = joined pieces ++ rest in
       let whole : width (a ++ behind) ≡ Some (length a) = fits.whole a behind each.0 (behind_keeps pieces rest each.1 c) in
       let next : front width (drop (length a) (a ++ behind)) ≡ length (joined pieces) =
-          ap (front width) (drop-append_seam a behind) ∙ joined_read shrinks pieces rest each.1 c none in
+      ap (front width) (drop-append_seam a behind) ∙ joined_read shrinks pieces rest each.1 c none in
       ap (front width) (append_assoc a (joined pieces) rest) ∙ front-some width (a ++ behind) (length a) shrinks whole
       ∙ ap (λ n. length a + n) next ∙ sym (length-append a (joined pieces))
 
@@ -110,7 +109,7 @@ range_read x y first last rest is_first is_last below =
     let l : LetterAt = record { letter = x; after = 0 + length first } in
     let count : 0 + length first ≡ length first = omega arith in
     let cut : drop (0 + length first) (first ++ 45 ∷ (last ++ rest)) ≡ 45 ∷ (last ++ rest) =
-        ap (λ n. drop n (first ++ 45 ∷ (last ++ rest))) count ∙ drop-append_seam first (45 ∷ (last ++ rest)) in
+    ap (λ n. drop n (first ++ 45 ∷ (last ++ rest))) count ∙ drop-append_seam first (45 ∷ (last ++ rest)) in
     let ordered : nat_le x y ≡ true = grind (arith, nat_tests) in
     let total : 0 + length first + 1 + length last ≡ length (first ++ 45 ∷ last) = omega (arith, length-append first (45 ∷ last)) in
     ap (λ o. option_and_then (λ (k : LetterAt). item_behind k (drop k.after (first ++ 45 ∷ (last ++ rest)))) o) (letter_read 0 x first (45 ∷ (last ++ rest)) is_first)

@@ -6,3 +6,4 @@ pub mod Spelled
 pub mod Begun
 pub mod Sound
 pub mod Fitting
+pub mod Complete
