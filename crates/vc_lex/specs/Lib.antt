@@ -1,0 +1,5 @@
+pub mod Letters
+pub mod Fronts
+pub mod Grammar
+pub mod Scans
+pub mod Lexers

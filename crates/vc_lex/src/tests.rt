@@ -1,0 +1,37 @@
+use super::*;
+use std::test::Fail;
+
+#[test]
+fn letters_lose_their_backslash(rt: HostRuntime) -> Result<(), Fail> {
+    let text = b"\\+b";
+    let plus = letter_at(text, 0).ok_or("no letter at 0")?;
+    assert_eq!(rt; plus.letter, b'+');
+    assert_eq!(rt; plus.after, 2);
+    assert!(rt; letter_at(text, 3).is_none());
+    Ok(())
+}
+
+#[test]
+fn texts_are_cut_into_tokens(rt: HostRuntime) -> Result<(), Fail> {
+    let mut lexer = Lexer::new(b"<2>a b", Mode::Expression);
+    for (kind, at, text) in [
+        (TokenKind::Weight, 0, b"<2>".as_slice()),
+        (TokenKind::Letter, 3, b"a".as_slice()),
+        (TokenKind::Letter, 5, b"b".as_slice()),
+    ] {
+        let token = lexer.next().ok_or("no token")?.ok().ok_or("a bad byte")?;
+        assert_eq!(rt; token.kind, kind);
+        assert_eq!(rt; token.at, at);
+        assert_eq!(rt; token.text, text);
+    }
+    assert!(rt; lexer.next().is_none());
+    let mut lexer = Lexer::new(b"a%", Mode::Expression);
+    let token = lexer.next().ok_or("no token")?.ok().ok_or("a bad byte")?;
+    assert_eq!(rt; token.at, 0);
+    assert_eq!(rt;
+        lexer.next().ok_or("no answer")?.err(),
+        Some(BadByte { at: 1 })
+    );
+    assert!(rt; lexer.next().is_none());
+    Ok(())
+}
