@@ -33,8 +33,8 @@ pub record IsAt (by : Fraction) (old new : List Fraction) (i : ℕ) : Type 0 whe
   pub rest : drop i new ≡ drop i old
   pub steps : outcome rationals (product_steps by (drop i old)) (tt {0}) ≡ outcome rationals (product_steps by old) (tt {0})
 
-pub at-start : (by : Fraction) (row : List Fraction) → IsAt by row row 0
-at-start by row = record { front = refl; rest = refl; steps = refl }
+pub at-start : (by : Fraction) (entries : List Fraction) → IsAt by entries entries 0
+at-start by entries = record { front = refl; rest = refl; steps = refl }
 
 steps-more : (by : Fraction) (old : List Fraction) (i : ℕ) (d : Fraction) → i < length old → holds (times (get_or old i d) by) ≡ true → outcome rationals (product_steps by (drop (i + 1) old)) (tt {0}) ≡ outcome rationals (product_steps by (drop i old)) (tt {0})
 steps-more by old i d h f =
