@@ -15,3 +15,4 @@ pub mod Summed
 pub mod Ordered
 pub mod Stated
 pub mod Answered
+pub mod Added

@@ -7,6 +7,7 @@ mod class;
 mod fault;
 mod head;
 mod label;
+mod law;
 mod line;
 mod lines;
 mod names;
@@ -14,6 +15,7 @@ mod read;
 mod tokens;
 
 pub use fault::{DautFault, HeadFault};
+pub use law::built_automata_are_spelled;
 pub use read::read_daut;
 
 #[cfg(test)]
