@@ -16,3 +16,4 @@ pub mod Ordered
 pub mod Stated
 pub mod Answered
 pub mod Added
+pub mod Cut

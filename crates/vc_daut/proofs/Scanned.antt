@@ -100,7 +100,7 @@ behind_none (Some ms) = refl
 pub cut_begins : (line : List ℕ) → IsCutTo line [] 0
 cut_begins line = record { most = length line + 1; enough = omega arith; within = omega arith; rest = behind_none (marks_of line) }
 
-next_within : (line : List ℕ) (at : ℕ) → at ≤ length line → next_at line at ≤ length line
+pub next_within : (line : List ℕ) (at : ℕ) → at ≤ length line → next_at line at ≤ length line
 next_within line at h = let p = prefix_len-le-length is_blank (drop at line) in omega (arith, p, length-drop at line)
 
 some_left : (line : List ℕ) (most at : ℕ) → length line < most + at → at ≤ length line → (n : ℕ) × (most ≡ suc n)

@@ -1,13 +1,15 @@
-ghost use Rattle.std.specs.Prelude.{◌≡◌, ℕ, Bool, List, Option};
+ghost use Rattle.std.specs.Prelude.{◌≡◌, ℕ, Bool, List, Option, Some};
 ghost use Rattle.vc_aut.specs.Labelled.{Labelled};
 ghost use Rattle.vc_daut.specs.Answers.{IsBuilt};
 ghost use Rattle.vc_daut.specs.Heads.{HeadLine};
+ghost use Rattle.vc_daut.specs.Marks.{HasMarks, Mark, marks_of};
 ghost use Rattle.vc_daut.specs.Spelling.{Spells};
 ghost use Rattle.vc_label.specs.declared.tape_set.TapeSet.{TapeSet};
 ghost use Rattle.vc_model.specs.Lists.{IsEqualityTest};
 ghost use Rattle.vc_model.specs.WeightSet.{WeightSet, SemiringLaws};
 
 use vc_aut::drafts_are_sums;
+use vc_lex::tokens_follow_the_grammar;
 
 /// The automaton that the reader builds is the one that the lines behind the head spell.
 pub fn built_automata_are_spelled<V>()
@@ -16,4 +18,13 @@ pub fn built_automata_are_spelled<V>()
         → IsBuilt R same spelled fit sets h a → Spells R spelled sets h.behind a.automaton }
 {
     drafts_are_sums::<V>();
+}
+
+/// The tokens of a line are those of the grammar: a list of tokens is read exactly where the line has them, one behind
+/// the other, and at its end nothing or a comment. So a line has at most one list of tokens.
+pub fn lines_have_their_tokens()
+    ensures sound { (line : List ℕ) (ms : List Mark) → marks_of line ≡ Some ms → HasMarks line 0 ms }
+    ensures complete { (line : List ℕ) (ms : List Mark) → HasMarks line 0 ms → marks_of line ≡ Some ms }
+{
+    tokens_follow_the_grammar();
 }

@@ -15,7 +15,7 @@ mod read;
 mod tokens;
 
 pub use fault::{DautFault, HeadFault};
-pub use law::built_automata_are_spelled;
+pub use law::{built_automata_are_spelled, lines_have_their_tokens};
 pub use read::read_daut;
 
 #[cfg(test)]
