@@ -1,3 +1,3 @@
-pub mod Steps
 pub mod Inputs
 pub mod Determined
+pub mod Evaluated

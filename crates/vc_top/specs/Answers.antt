@@ -1,15 +1,11 @@
 -- Which answers a request allows, each with its cause.
-use Rattle.std.specs.Prelude.{◌≡◌, ◌<◌, ◌≤◌, ℕ, length, Option, None, Some, Result, Ok, Err, ⊤, ◌⊎◌}
+use Rattle.std.specs.Prelude.{◌≡◌, ◌<◌, ◌≤◌, ℕ, length, Option, None, Some, Ok, Err, ⊤, ◌⊎◌}
 use Rattle.vc_files.specs.Files.{Bytes, Tells, Added}
-use Rattle.vc_top.specs.declared.status.Status.{Status}
 use Rattle.vc_top.specs.declared.status.Status.TheVariants as status
 use Rattle.vc_top.specs.Words.{Request, eval_file}
 use Rattle.vc_top.specs.Seen.{Seen, Reads}
-use Rattle.vc_top.specs.Evaluations.{Evaluates, IsRefused}
-
--- a text to print, or a status that refuses
-abbrev pub Answer : Type 0
-Answer = Result Bytes Status
+use Rattle.vc_top.specs.Evaluations.{Evaluates}
+use Rattle.vc_top.specs.Refusals.{Answer}
 
 -- the greatest number of bytes of a file
 abbrev pub most_bytes : ℕ
@@ -25,8 +21,9 @@ Loads seen name (Err other) = ⊥
 
 -- the answers to `eval FILE WORD`
 abbrev pub AllowsEvalFile : Seen → Bytes → Bytes → Answer → Type 0
-AllowsEvalFile seen file word (Ok text) = Reads seen file (λ bytes. (length bytes ≤ most_bytes) × Evaluates bytes word text)
-AllowsEvalFile seen file word (Err status.Syntax) = Reads seen file (λ bytes. (length bytes ≤ most_bytes) × IsRefused bytes word)
+AllowsEvalFile seen file word (Ok text) = Reads seen file (λ bytes. (length bytes ≤ most_bytes) × Evaluates bytes word (Ok text))
+AllowsEvalFile seen file word (Err status.Syntax) = Reads seen file (λ bytes. (length bytes ≤ most_bytes) × Evaluates bytes word (Err status.Syntax))
+AllowsEvalFile seen file word (Err status.Overflow) = Reads seen file (λ bytes. (length bytes ≤ most_bytes) × Evaluates bytes word (Err status.Overflow))
 AllowsEvalFile seen file word (Err status.Limit) = Reads seen file (λ bytes. most_bytes < length bytes)
 AllowsEvalFile seen file word (Err status.ReadFault) = Added seen.before seen.after
 AllowsEvalFile seen file word (Err status.Memory) = ⊤

@@ -2,6 +2,8 @@ pub mod Statuses
 pub mod Words
 pub mod Requests
 pub mod Seen
+pub mod Refusals
+pub mod Sets
 pub mod Evaluations
 pub mod Answers
 pub mod Delivery

@@ -3,14 +3,15 @@ ghost use Rattle.std.specs.Option.{option_map};
 ghost use Rattle.std.specs.Io.KnownBytes.{Appends};
 ghost use Rattle.vc_files.specs.Files.{Bytes, Grows, Added};
 ghost use Rattle.vc_files.specs.Sink.{Rose, AppendsFront};
-ghost use Rattle.vc_top.specs.Answers.{Answer, Allows, AllowsEvalFile, Loads};
+ghost use Rattle.vc_top.specs.Answers.{Allows, AllowsEvalFile, Loads};
+ghost use Rattle.vc_top.specs.Refusals.{Answer};
 ghost use Rattle.vc_top.specs.Delivery.{Delivers};
 ghost use Rattle.vc_top.specs.Requests.{request};
 ghost use Rattle.vc_top.specs.Seen.{seen};
 ghost use Rattle.vc_top.specs.Views.{loaded_of, answer_of};
 ghost use Rattle.vc_top.specs.Words.{request_of, names_of};
 
-use crate::answer::{EvalFault, evaluation};
+use crate::answer::evaluation;
 use crate::request::{Request, request_of};
 use crate::status::Status;
 use std::alloc::Global;
@@ -45,11 +46,7 @@ fn eval_file<F: Files>(
     ensures answer { AllowsEvalFile (seen (F.held files.old) (F.faults files.old) (F.faults files.new)) file.now word.now (answer_of result) }
 {
     let bytes = load(files, file)?;
-    match evaluation(alloc, &bytes, word.as_bytes()) {
-        Ok(text) => Ok(text),
-        Err(EvalFault::Syntax) => Err(Status::Syntax),
-        Err(EvalFault::Memory) => Err(Status::Memory),
-    }
+    evaluation(alloc, &bytes, word.as_bytes())
 }
 
 /// The answer to a request.
