@@ -1,8 +1,11 @@
 -- Blanks and pieces at the front of a text.
-use Rattle.std.proofs.Common.{◌≡◌, ℕ, Bool, true, false, ◌&&◌, List, [], ◌∷◌, ◌++◌, Option, Some, None, refl, ap, sym, ◌∙◌, subst, append_assoc}
-use Rattle.std.proofs.lemmas.Bool.{eqb-true, eqb-refl}
+use Rattle.std.proofs.Common.{◌≡◌, ◌≢◌, ℕ, Bool, true, false, ◌&&◌, List, [], ◌∷◌, ◌++◌, Option, Some, None, refl, ap, sym, ◌∙◌, subst, append_assoc}
+use Rattle.std.proofs.lemmas.Bool.{eqb-true}
+use Rattle.std.proofs.lemmas.Bool.Decides.{Decides-eqb}
+use Rattle.std.specs.Borrow.{Bor}
 use Rattle.std.specs.List.{list_all}
-use Rattle.std.specs.Prelude.{if◌then◌else◌, ◌==◌}
+use Rattle.std.specs.Option.{option_copied}
+use Rattle.std.specs.Prelude.{if◌then◌else◌, ◌==◌, MatchOption}
 use Rattle.vc_context.specs.Reading.{skip, strip, after, closed}
 use Rattle.vc_context.specs.Spelling.{AreBlanks, Spaced}
 use Rattle.vc_lex.specs.Scans.{is_blank}
@@ -53,7 +56,17 @@ strip_sound (c ∷ piece) (x ∷ s) rest e = more c x piece s rest (x == c) refl
 
 pub strip_read : (piece rest : List ℕ) → strip piece (piece ++ rest) ≡ Some rest
 strip_read [] rest = refl
-strip_read (c ∷ piece) rest = ap (λ b. if b then strip piece (piece ++ rest) else None) (eqb-refl c) ∙ strip_read piece rest
+strip_read (c ∷ piece) rest = ap (λ b. if b then strip piece (piece ++ rest) else None) ((Decides-eqb c c).1 refl) ∙ strip_read piece rest
+
+-- what `strip_prefix` on slices answers
+pub stripped : (piece s : List ℕ) (r : Option (Bor (List ℕ))) → MatchOption r ((rest : List ℕ) → s ≢ piece ++ rest) (λ x. s ≡ piece ++ x.now)
+    → option_copied r ≡ strip piece s
+stripped piece s None none = absent (strip piece s) refl
+  where
+    absent : (o : Option (List ℕ)) → strip piece s ≡ o → None ≡ strip piece s
+    absent None e = sym e
+    absent (Some rest) e = absurd (none rest (strip_sound piece s rest e))
+stripped piece s (Some x) found = sym (ap (strip piece) found ∙ strip_read piece x.now)
 
 -- a piece was found behind blanks
 pub after_sound : (piece s rest : List ℕ) → after piece s ≡ Some rest → (blanks : List ℕ) × (s ≡ blanks ++ (piece ++ rest)) × AreBlanks blanks

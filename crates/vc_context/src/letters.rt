@@ -22,6 +22,7 @@ fn letter(text: &[u8]) -> Option<(u8, &[u8])>
 fn item(text: &[u8]) -> Option<(u8, u8, &[u8])>
     ensures value { option_map (λ r. (record { first = r.0; last = r.1 }, r.2.now)) result ≡ item_front text.now }
     ensures letters { IfSome result (λ r. IsTrue (is_letter r.0) × IsTrue (is_letter r.1)) }
+    ensures ordered { IfSome result (λ r. r.0 ≤ r.1) }
     ensures shorter { IfSome result (λ r. length r.2.now < length text.now) }
 {
     let (first, rest) = letter(text)?;
@@ -40,6 +41,7 @@ fn item(text: &[u8]) -> Option<(u8, u8, &[u8])>
 fn with_range(alphabet: Alphabet, first: u8, last: u8) -> Alphabet
     requires first { IsTrue (is_letter first) }
     requires last { IsTrue (is_letter last) }
+    requires ordered { first ≤ last }
     ensures { (x : ℕ) → has_letter result x ≡ (has_letter alphabet x || (nat_le first x && nat_le x last)) }
 {
     let mut wider = alphabet;
