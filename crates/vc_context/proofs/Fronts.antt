@@ -1,7 +1,7 @@
 -- Blanks and pieces at the front of a text.
-use Rattle.std.proofs.Common.{◌≡◌, ◌≢◌, ℕ, Bool, true, false, ◌&&◌, List, [], ◌∷◌, ◌++◌, Option, Some, None, refl, ap, sym, ◌∙◌, subst, append_assoc}
+use Rattle.std.proofs.Common.{◌≡◌, ◌≢◌, ℕ, Bool, true, false, ◌&&◌, List, [], ◌∷◌, ◌++◌, length, Option, Some, None, refl, ap, sym, ◌∙◌, subst, append_assoc, arith}
 use Rattle.std.proofs.lemmas.Bool.{eqb-true}
-use Rattle.std.proofs.lemmas.Bool.Decides.{Decides-eqb}
+use Rattle.std.proofs.lemmas.Bool.Decides.{Decides-eqb, nat_tests}
 use Rattle.std.specs.Borrow.{Bor}
 use Rattle.std.specs.List.{list_all}
 use Rattle.std.specs.Option.{option_copied}
@@ -113,3 +113,15 @@ pub begins_spaced : (pieces : List (List ℕ)) (s rest : List ℕ) → Begins pi
 begins_spaced [] s rest begins are = subst AreBlanks (sym begins) are
 begins_spaced (piece ∷ pieces) s rest (blanks, next, text, behind, begins) are =
     (blanks, next, text, behind, begins_spaced pieces next rest begins are)
+
+-- nothing is left behind blanks exactly where all bytes are blanks
+pub skipped_all : (s : List ℕ) → (length (skip s) == 0) ≡ list_all is_blank s
+skipped_all [] = refl
+skipped_all (x ∷ s) = at_blank x s (is_blank x) refl (skipped_all s)
+  where
+    at_blank : (x : ℕ) (s : List ℕ) (b : Bool) → is_blank x ≡ b → (length (skip s) == 0) ≡ list_all is_blank s
+        → (length (skip (x ∷ s)) == 0) ≡ (is_blank x && list_all is_blank s)
+    at_blank x s true e same = ap (λ t. length t == 0) (skip_blank x s e) ∙ same ∙ ap (λ b. b && list_all is_blank s) (sym e)
+    at_blank x s false e same =
+        let some : (length (x ∷ s) == 0) ≡ false = grind (arith, nat_tests) in
+        ap (λ t. length t == 0) (skip_other x s e) ∙ some ∙ ap (λ b. b && list_all is_blank s) (sym e)

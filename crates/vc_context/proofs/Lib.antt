@@ -6,3 +6,6 @@ pub mod Gathering
 pub mod OneTape
 pub mod OneRead
 pub mod Heads
+pub mod Joins
+pub mod Whole
+pub mod Refusals

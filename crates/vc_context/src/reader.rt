@@ -9,6 +9,7 @@ ghost use Rattle.vc_label.specs.declared.tape_set.TapeSet.{TapeSet};
 
 use crate::context::{AnyContext, AnyLabels, ContextFault, Weights};
 use crate::joined::{Style, Tapes};
+use crate::laws::texts_are_read;
 use crate::pieces::{after, skip};
 use crate::tapes::named;
 use vc_atoms::{Letters, Nullable, Words};
@@ -127,5 +128,6 @@ pub fn read_context(text: &[u8]) -> Result<AnyContext, ContextFault>
     ensures spelled { IfOk result (λ c. SpellsContext text.now (tapes_of c.labels) c.weights) }
     ensures none { OnErr result ((sets : List TapeSet) (weights : Weights) → ¬ SpellsContext text.now sets weights) }
 {
+    texts_are_read();
     context_at(text).ok_or(ContextFault::NotAContext)
 }
