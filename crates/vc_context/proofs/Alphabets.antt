@@ -240,7 +240,7 @@ item_letters text r (inr (first, last, e, is_first, is_last, below)) = (spelled_
 between_letters : (x first last : ℕ) → IsTrue (is_letter first) → IsTrue (is_letter last) → (nat_le first x && nat_le x last) ≡ true → IsTrue (is_letter x)
 between_letters x first last low high e = grind (arith, common_steps, nat_tests)
 
-either : (b c : Bool) → (b || c) ≡ true → (b ≡ true) ⊎ (c ≡ true)
+pub either : (b c : Bool) → (b || c) ≡ true → (b ≡ true) ⊎ (c ≡ true)
 either true c e = inl refl
 either false c e = inr e
 
@@ -268,7 +268,7 @@ in_named : (ranges : List Range) (x : ℕ) → IsTrue (is_letter x) → is_named
 unfolding letters_in
 in_named ranges x letter e = In-filter (is_named ranges) x (up_from 0x21 94) (in_range x letter) e
 
-same_tests : (b c : Bool) → (b ≡ true → c ≡ true) → (c ≡ true → b ≡ true) → b ≡ c
+pub same_tests : (b c : Bool) → (b ≡ true → c ≡ true) → (c ≡ true → b ≡ true) → b ≡ c
 same_tests true c f g = sym (f refl)
 same_tests false true f g = g refl
 same_tests false false f g = refl

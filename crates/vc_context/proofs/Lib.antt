@@ -9,3 +9,4 @@ pub mod Heads
 pub mod Joins
 pub mod Whole
 pub mod Refusals
+pub mod Written
