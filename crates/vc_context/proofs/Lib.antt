@@ -10,3 +10,4 @@ pub mod Joins
 pub mod Whole
 pub mod Refusals
 pub mod Written
+pub mod Growths

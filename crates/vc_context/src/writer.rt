@@ -23,7 +23,7 @@ fn is_plain(letter: u8) -> bool
 fn push_letter(letter: u8, into: &mut String) -> Result<(), AllocError>
     requires { letter < 128 }
     ensures ok { OnOk result (string_bytes into.new ≡ string_bytes into.old ++ letter_text letter) }
-    ensures err { OnErr result (IsLonger (string_bytes into.old) (string_bytes into.new)) }
+    ensures longer { IsLonger (string_bytes into.old) (string_bytes into.new) }
 {
     if !is_plain(letter) {
         into.push('\\')?;
@@ -34,7 +34,7 @@ fn push_letter(letter: u8, into: &mut String) -> Result<(), AllocError>
 // Appends the letters ascending, those that are not plain with a backslash before them.
 fn push_letters(alphabet: Alphabet, into: &mut String) -> Result<(), AllocError>
     ensures ok { OnOk result (string_bytes into.new ≡ string_bytes into.old ++ flat_map letter_text (letters_of alphabet)) }
-    ensures err { OnErr result (IsLonger (string_bytes into.old) (string_bytes into.new)) }
+    ensures longer { IsLonger (string_bytes into.old) (string_bytes into.new) }
 {
     for letter in 0x21..0x7f {
         if alphabet.has(letter) {
@@ -58,7 +58,7 @@ fn kind_name(kind: TapeKind) -> &'static str
 // Appends a name, and letters in parentheses.
 fn push_tape(set: TapeSet, into: &mut String) -> Result<(), AllocError>
     ensures ok { OnOk result (string_bytes into.new ≡ string_bytes into.old ++ tape_text set) }
-    ensures err { OnErr result (IsLonger (string_bytes into.old) (string_bytes into.new)) }
+    ensures longer { IsLonger (string_bytes into.old) (string_bytes into.new) }
 {
     into.push_str(kind_name(set.kind))?;
     into.push('(')?;
@@ -69,7 +69,7 @@ fn push_tape(set: TapeSet, into: &mut String) -> Result<(), AllocError>
 // Appends one tape alone, or several in `lat<` and `>`.
 fn push_labels<L: LabelSet>(labels: &L, into: &mut String) -> Result<(), AllocError>
     ensures ok { OnOk result (string_bytes into.new ≡ string_bytes into.old ++ labels_text (L.sets labels.now)) }
-    ensures err { OnErr result (IsLonger (string_bytes into.old) (string_bytes into.new)) }
+    ensures longer { IsLonger (string_bytes into.old) (string_bytes into.new) }
 {
     if labels.tapes() == 1 {
         return push_tape(labels.tape(0), into);
@@ -99,7 +99,7 @@ fn weights_name(weights: Weights) -> &'static str
 // Appends the canonical text; where there is no memory for it, a front of it.
 fn push_context(context: &AnyContext, into: &mut String) -> Result<(), AllocError>
     ensures ok { OnOk result (string_bytes into.new ≡ string_bytes into.old ++ context_text (tapes_of context.now.labels) context.now.weights) }
-    ensures err { OnErr result (IsLonger (string_bytes into.old) (string_bytes into.new)) }
+    ensures longer { IsLonger (string_bytes into.old) (string_bytes into.new) }
 {
     match &context.labels {
         AnyLabels::Letters(labels) => push_labels(labels, into)?,
