@@ -1,33 +1,42 @@
 -- Texts that grow by bytes below 128.
-use Rattle.std.proofs.Common.{◌≡◌, ℕ, suc, ◌+◌, ◌-◌, ◌<◌, ◌≤◌, Bool, true, false, ◌&&◌, List, [], ◌∷◌, ◌++◌, length, Option, refl, ap, sym, ◌∙◌, subst, append_assoc, append-nil, length-append, arith}
+use Rattle.std.proofs.Common.{◌≡◌, ℕ, suc, ◌+◌, ◌-◌, ◌<◌, ◌≤◌, Bool, true, false, ◌&&◌, List, [], ◌∷◌, ◌++◌, length, drop, Option, Some, refl, ap, sym, ◌∙◌, subst, append_assoc, append-nil, length-append, arith}
 use Rattle.std.proofs.lemmas.Bool.Decides.{nat_tests}
 use Rattle.std.specs.List.{list_all}
 use Rattle.std.specs.List.{flat_map, filter}
-use Rattle.std.specs.Prelude.{nat_lt, if◌then◌else◌}
-use Rattle.vc_context.specs.Canonical.{letter_text}
-use Rattle.vc_context.specs.Growth.{is_ascii, IsLonger}
+use Rattle.std.specs.Prelude.{nat_lt, if◌then◌else◌, codes, slice_get}
+use Rattle.std.proofs.lemmas.List.{drop_more, drop_all}
+use Rattle.std.proofs.lemmas.Option.{slice_get_within, get_or_from_slice_get}
+use Rattle.vc_context.specs.Canonical.{letter_text, tape_text, comma_text, labels_text}
+use Rattle.vc_context.specs.Growth.{IsAscii, IsLonger}
+use Rattle.vc_context.proofs.Fronts.{both_true, are_both}
 use Rattle.vc_label.specs.Alphabets.{has_letter, letters_of}
+use Rattle.vc_label.specs.declared.tape_set.TapeSet.{TapeSet}
 use Rattle.vc_label.specs.declared.alphabet.Alphabet.{Alphabet}
 use Rattle.vc_model.specs.Lists.{up_from}
 
-all_of_both : (xs ys : List ℕ) → list_all is_ascii xs ≡ true → list_all is_ascii ys ≡ true → list_all is_ascii (xs ++ ys) ≡ true
+all_of_both : (xs ys : List ℕ) → IsAscii xs → IsAscii ys → IsAscii (xs ++ ys)
 all_of_both [] ys first second = second
-all_of_both (x ∷ xs) ys first second = more (is_ascii x) refl first (λ h. all_of_both xs ys h second)
-  where
-    more : (b : Bool) → is_ascii x ≡ b → (b && list_all is_ascii xs) ≡ true → (list_all is_ascii xs ≡ true → list_all is_ascii (xs ++ ys) ≡ true)
-        → (is_ascii x && list_all is_ascii (xs ++ ys)) ≡ true
-    more true e f rest = ap (λ b. b && list_all is_ascii (xs ++ ys)) e ∙ rest f
-    more false e f rest = absurd (cc)
+all_of_both (x ∷ xs) ys first second =
+    let each = both_true (nat_lt x 128) (list_all (λ y. nat_lt y 128) xs) first in
+    are_both (nat_lt x 128) (list_all (λ y. nat_lt y 128) (xs ++ ys)) each.0 (all_of_both xs ys each.1 second)
 
 pub longer_same : (s t : List ℕ) → t ≡ s → IsLonger s t
-longer_same s t e = ([], e ∙ sym (append-nil s), refl)
-
-pub longer_by : (s t more : List ℕ) → t ≡ s ++ more → list_all is_ascii more ≡ true → IsLonger s t
-longer_by s t more e all = (more, e, all)
+longer_same s t e = record { more = []; text = e ∙ sym (append-nil s); ascii = refl }
 
 pub longer_twice : (s t u : List ℕ) → IsLonger s t → IsLonger t u → IsLonger s u
-longer_twice s t u (first, e, all) (second, f, rest) =
-    (first ++ second, f ∙ ap (λ x. x ++ second) e ∙ append_assoc s first second, all_of_both first second all rest)
+longer_twice s t u first second = record {
+  more = first.more ++ second.more;
+  text = second.text ∙ ap (λ x. x ++ second.more) first.text ∙ append_assoc s first.more second.more;
+  ascii = all_of_both first.more second.more first.ascii second.ascii;
+}
+
+-- what a call answered that appends a text or nothing
+pub longer_if : (s t more : List ℕ) (b : Bool) → t ≡ (if b then s ++ more else s) → IsAscii more → IsLonger s t
+longer_if s t more true e ascii = record { more = more; text = e; ascii = ascii }
+longer_if s t more false e ascii = longer_same s t e
+
+pub one_ascii : (x : ℕ) → x < 128 → IsAscii (x ∷ [])
+one_ascii x below = grind (arith, nat_tests)
 
 -- ---- the letters of an alphabet, one after another
 
@@ -74,3 +83,49 @@ pub letters_end : (a : Alphabet) (x : ℕ) (s all : List ℕ) → x ≡ 0x7f →
 letters_end a x s all end before =
     let none : text_from a x ≡ [] = ap (text_from a) end ∙ no_text a in
     sym (append-nil s) ∙ ap (λ u. s ++ u) (sym none) ∙ before
+
+-- ---- tapes, one after another
+
+-- a text that grew by one more, where what is to come is known
+grown : (old s t first rest all : List ℕ) → t ≡ s ++ first → s ++ (first ++ rest) ≡ all → t ++ rest ≡ all
+grown old s t first rest all added before = ap (λ u. u ++ rest) added ∙ append_assoc s first rest ∙ before
+
+-- the text of one tape
+pub tapes_one : (sets : List TapeSet) (set : TapeSet) (old t : List ℕ) → length sets ≡ 1 → slice_get sets 0 ≡ Some set → t ≡ old ++ tape_text set → t ≡ old ++ labels_text sets
+tapes_one [] set old t one first added = absurd (omega arith)
+tapes_one (a ∷ []) set old t one first added =
+    let same : a ≡ set = cc in
+    added ∙ ap (λ x. old ++ tape_text x) (sym same)
+tapes_one (a ∷ b ∷ sets) set old t one first added = absurd (omega arith)
+
+-- the first of several tapes
+pub tapes_first : (sets : List TapeSet) (set : TapeSet) (old s t : List ℕ) → 2 ≤ length sets → slice_get sets 0 ≡ Some set
+    → s ≡ old ++ codes "lat<" → t ≡ s ++ tape_text set
+    → t ++ (flat_map comma_text (drop 1 sets) ++ codes ">") ≡ old ++ labels_text sets
+tapes_first [] set old s t several first begun added = absurd (omega arith)
+tapes_first (a ∷ []) set old s t several first begun added = absurd (omega arith)
+tapes_first (a ∷ b ∷ sets) set old s t several first begun added =
+    let same : a ≡ set = cc in
+    let rest : List ℕ = flat_map comma_text (b ∷ sets) ++ codes ">" in
+    grown old s t (tape_text set) rest (old ++ labels_text (a ∷ b ∷ sets)) added
+    (ap (λ u. u ++ (tape_text set ++ rest)) begun ∙ append_assoc old (codes "lat<") (tape_text set ++ rest)
+    ∙ ap (λ x. old ++ (codes "lat<" ++ (tape_text x ++ rest))) (sym same))
+
+-- the tape at a place, and those behind it
+drop_here : (sets : List TapeSet) (i : ℕ) (set : TapeSet) → slice_get sets i ≡ Some set → drop i sets ≡ set ∷ drop (i + 1) sets
+drop_here sets i set e =
+    let within : i < length sets = slice_get_within sets i set e in
+    drop_more sets i set within ∙ ap (λ s. s ∷ drop (i + 1) sets) (get_or_from_slice_get sets i set set e)
+
+pub tapes_next : (sets : List TapeSet) (i : ℕ) (set : TapeSet) (s t all : List ℕ) → slice_get sets i ≡ Some set → t ≡ s ++ comma_text set
+    → s ++ (flat_map comma_text (drop i sets) ++ codes ">") ≡ all → t ++ (flat_map comma_text (drop (i + 1) sets) ++ codes ">") ≡ all
+tapes_next sets i set s t all here added before =
+    let rest : List ℕ = flat_map comma_text (drop (i + 1) sets) in
+    let same : flat_map comma_text (drop i sets) ≡ comma_text set ++ rest = ap (flat_map comma_text) (drop_here sets i set here) in
+    grown s s t (comma_text set) (rest ++ codes ">") all added
+    (ap (λ u. s ++ u) (sym (append_assoc (comma_text set) rest (codes ">"))) ∙ ap (λ u. s ++ (u ++ codes ">")) (sym same) ∙ before)
+
+pub tapes_last : (sets : List TapeSet) (i : ℕ) (s t all : List ℕ) → length sets ≤ i → t ≡ s ++ codes ">"
+    → s ++ (flat_map comma_text (drop i sets) ++ codes ">") ≡ all → t ≡ all
+tapes_last sets i s t all end added before =
+    added ∙ ap (λ (l : List TapeSet). s ++ (flat_map comma_text l ++ codes ">")) (sym (drop_all i sets end)) ∙ before

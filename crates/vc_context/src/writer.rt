@@ -1,7 +1,7 @@
-ghost use Rattle.std.specs.Prelude.{◌≡◌, ◌++◌, ◌<◌, OnOk, OnErr, string_bytes};
+ghost use Rattle.std.specs.Prelude.{◌≡◌, ◌++◌, ◌<◌, ◌∷◌, [], OnOk, OnErr, string_bytes};
 ghost use Rattle.std.specs.List.{flat_map};
 ghost use Rattle.vc_context.specs.Canonical.{letter_text, tape_text, comma_text, labels_text, context_text, kind_name};
-ghost use Rattle.vc_context.specs.Growth.{IsLonger};
+ghost use Rattle.vc_context.specs.Growth.{IsAscii, IsLonger};
 ghost use Rattle.vc_context.specs.Sets.{tapes_of};
 ghost use Rattle.vc_context.specs.Spelling.{weights_name};
 ghost use Rattle.vc_label.specs.Alphabets.{letters_of};
@@ -19,16 +19,35 @@ fn is_plain(letter: u8) -> bool
     matches!(letter, b'a'..=b'z' | b'A'..=b'Z' | b'0'..=b'9' | b'_')
 }
 
+// Appends a text of bytes below 128.
+fn push_text(text: &str, into: &mut String) -> Result<(), AllocError>
+    requires { IsAscii text.now }
+    ensures ok { OnOk result (string_bytes into.new ≡ string_bytes into.old ++ text.now) }
+    ensures longer { IsLonger (string_bytes into.old) (string_bytes into.new) }
+{
+    into.push_str(text)
+}
+
+// Appends a byte below 128.
+fn push_byte(byte: u8, into: &mut String) -> Result<(), AllocError>
+    requires { byte < 128 }
+    ensures ok { OnOk result (string_bytes into.new ≡ string_bytes into.old ++ byte ∷ []) }
+    ensures longer { IsLonger (string_bytes into.old) (string_bytes into.new) }
+{
+    into.push(char::from(byte))
+}
+
 // Appends the letter, with a backslash before it where it is not plain.
+#[tactic(auto, using(crate::proofs::Growths::longer_twice))]
 fn push_letter(letter: u8, into: &mut String) -> Result<(), AllocError>
     requires { letter < 128 }
     ensures ok { OnOk result (string_bytes into.new ≡ string_bytes into.old ++ letter_text letter) }
     ensures longer { IsLonger (string_bytes into.old) (string_bytes into.new) }
 {
     if !is_plain(letter) {
-        into.push('\\')?;
+        push_byte(b'\\', into)?;
     }
-    into.push(char::from(letter))
+    push_byte(letter, into)
 }
 
 // Appends the letters ascending, those that are not plain with a backslash before them.
@@ -46,7 +65,8 @@ fn push_letters(alphabet: Alphabet, into: &mut String) -> Result<(), AllocError>
 
 // The name of the sets of one tape.
 fn kind_name(kind: TapeKind) -> &'static str
-    ensures { result.now ≡ kind_name kind }
+    ensures value { result.now ≡ kind_name kind }
+    ensures ascii { IsAscii result.now }
 {
     match kind {
         TapeKind::Letters => "lal_char",
@@ -56,17 +76,29 @@ fn kind_name(kind: TapeKind) -> &'static str
 }
 
 // Appends a name, and letters in parentheses.
+#[tactic(auto, using(crate::proofs::Growths::longer_twice))]
 fn push_tape(set: TapeSet, into: &mut String) -> Result<(), AllocError>
     ensures ok { OnOk result (string_bytes into.new ≡ string_bytes into.old ++ tape_text set) }
     ensures longer { IsLonger (string_bytes into.old) (string_bytes into.new) }
 {
-    into.push_str(kind_name(set.kind))?;
-    into.push('(')?;
+    push_text(kind_name(set.kind), into)?;
+    push_byte(b'(', into)?;
     push_letters(set.alphabet, into)?;
-    into.push(')')
+    push_byte(b')', into)
+}
+
+// Appends a comma, a blank and a tape.
+#[tactic(auto, using(crate::proofs::Growths::longer_twice))]
+fn push_behind(set: TapeSet, into: &mut String) -> Result<(), AllocError>
+    ensures ok { OnOk result (string_bytes into.new ≡ string_bytes into.old ++ comma_text set) }
+    ensures longer { IsLonger (string_bytes into.old) (string_bytes into.new) }
+{
+    push_text(", ", into)?;
+    push_tape(set, into)
 }
 
 // Appends one tape alone, or several in `lat<` and `>`.
+#[tactic(auto, using(crate::proofs::Growths::longer_twice))]
 fn push_labels<L: LabelSet>(labels: &L, into: &mut String) -> Result<(), AllocError>
     ensures ok { OnOk result (string_bytes into.new ≡ string_bytes into.old ++ labels_text (L.sets labels.now)) }
     ensures longer { IsLonger (string_bytes into.old) (string_bytes into.new) }
@@ -74,18 +106,18 @@ fn push_labels<L: LabelSet>(labels: &L, into: &mut String) -> Result<(), AllocEr
     if labels.tapes() == 1 {
         return push_tape(labels.tape(0), into);
     }
-    into.push_str("lat<")?;
+    push_text("lat<", into)?;
     push_tape(labels.tape(0), into)?;
     for i in 1..labels.tapes() {
-        into.push_str(", ")?;
-        push_tape(labels.tape(i), into)?;
+        push_behind(labels.tape(i), into)?;
     }
-    into.push('>')
+    push_byte(b'>', into)
 }
 
 // The name of the weight set.
 fn weights_name(weights: Weights) -> &'static str
-    ensures { result.now ≡ weights_name weights }
+    ensures value { result.now ≡ weights_name weights }
+    ensures ascii { IsAscii result.now }
 {
     match weights {
         Weights::B => "b",
@@ -97,6 +129,7 @@ fn weights_name(weights: Weights) -> &'static str
 }
 
 // Appends the canonical text; where there is no memory for it, a front of it.
+#[tactic(auto, using(crate::proofs::Growths::longer_twice))]
 fn push_context(context: &AnyContext, into: &mut String) -> Result<(), AllocError>
     ensures ok { OnOk result (string_bytes into.new ≡ string_bytes into.old ++ context_text (tapes_of context.now.labels) context.now.weights) }
     ensures longer { IsLonger (string_bytes into.old) (string_bytes into.new) }
@@ -107,8 +140,8 @@ fn push_context(context: &AnyContext, into: &mut String) -> Result<(), AllocErro
         AnyLabels::Words(labels) => push_labels(labels, into)?,
         AnyLabels::Tuple(labels) => push_labels(labels, into)?,
     }
-    into.push_str(", ")?;
-    into.push_str(weights_name(context.weights))
+    push_text(", ", into)?;
+    push_text(weights_name(context.weights), into)
 }
 
 /// Appends the canonical text of the context.
