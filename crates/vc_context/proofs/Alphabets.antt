@@ -171,10 +171,11 @@ items_sound (suc n) s = more (item_front s) refl (items_sound n)
     more None e next = ([], refl, refl)
     more (Some (r, rest)) e next =
         let first = item_sound s r rest e in
-        let behind = next rest in
-        (first.0 ++ behind.0,
-        first.1 ∙ ap (λ t. first.0 ++ t) behind.1 ∙ sym (append_assoc first.0 behind.0 (items_by n rest).1),
-        (first.0, behind.0, refl, first.2, behind.2))
+        let behind = next rest in (
+          first.0 ++ behind.0,
+          first.1 ∙ ap (λ t. first.0 ++ t) behind.1 ∙ sym (append_assoc first.0 behind.0 (items_by n rest).1),
+          (first.0, behind.0, refl, first.2, behind.2),
+        )
 
 -- ---- items behind blanks, and the mark that closes them
 
@@ -220,10 +221,13 @@ until_sound close s letters rest e =
     let (same, last) = found_is (letters_in ranges) letters end.0 rest (ap Some end.2) in
     let items = items_sound (length (skip s)) (skip s) in
     let spaced = blanks_before s in
-    let shut = after_sound close middle end.0 end.1 in
-    (items.0, ranges,
-    (spaced.0, middle, spaced.1 ∙ ap (λ t. spaced.0 ++ t) items.1, spaced.2, (shut.0, end.0, shut.1, shut.2, last)),
-    items.2, same)
+    let shut = after_sound close middle end.0 end.1 in (
+      items.0,
+      ranges,
+      (spaced.0, middle, spaced.1 ∙ ap (λ t. spaced.0 ++ t) items.1, spaced.2, (shut.0, end.0, shut.1, shut.2, last)),
+      items.2,
+      same,
+    )
 
 -- ---- alphabets
 

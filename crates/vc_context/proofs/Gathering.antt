@@ -80,7 +80,6 @@ letters_all a text rest e letters end =
     let behind : rest ≡ (items_front (skip text)).1 = ap (λ (p : Items). p.1) (sym none) ∙ end in
     ap (λ l. (let r : List ℕ × List ℕ = (l, rest) in r)) same ∙ ap (λ t. (let r : List ℕ × List ℕ = (letters_in (items_front (skip text)).0, t) in r)) behind
 
-
 -- the letters of a range, where the letter behind its last is reached
 pub range_all : (first last letter x : ℕ) → letter ≤ last + 1 → last < letter → (nat_le first x && nat_lt x letter) ≡ (nat_le first x && nat_le x last)
 range_all first last letter x high low = grind (arith, nat_tests)

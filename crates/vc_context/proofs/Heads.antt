@@ -124,14 +124,14 @@ module _ (a : Alphabet) where
       let head = nullable_head frame s rest member framed in
       record {
         named = choose_not (letters_called Letters s) Some (choose (nullable_called s) Some (words_called s)) (no_letters Letters s head.1)
-        ∙ choose_is (nullable_called s) Some (words_called s) (tape_with Nullable a, rest) (nullable_read a frame s rest member framed);
+            ∙ choose_is (nullable_called s) Some (words_called s) (tape_with Nullable a, rest) (nullable_read a frame s rest member framed);
         alone = head.0;
       }
   named_by_kind Words frame s rest member framed =
       let head = words_head frame s rest member framed in
       record {
         named = choose_not (letters_called Letters s) Some (choose (nullable_called s) Some (words_called s)) (no_letters Letters s head.1)
-        ∙ choose_not (nullable_called s) Some (words_called s) (no_nullable s head.2) ∙ words_read a frame s rest member framed;
+            ∙ choose_not (nullable_called s) Some (words_called s) (no_nullable s head.2) ∙ words_read a frame s rest member framed;
         alone = head.0;
       }
 

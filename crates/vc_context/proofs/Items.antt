@@ -75,9 +75,11 @@ from_two : (y z x : ℕ) (s rest : List ℕ) (b c : Bool) → is_plain y ≡ b �
 from_two y z x s rest true c plain escaped e = from_plain y x (z ∷ s) rest plain e
 from_two y z x s rest false true plain escaped e =
     let both = both_true (y == 92) (is_escaped z) escaped in
-    let (same, behind) = found_is z x s rest e in
-    (y ∷ z ∷ [], ap (λ t. y ∷ z ∷ t) behind,
-    inr (subst (λ w. is_escaped w ≡ true) same both.1, ap (λ w. w ∷ z ∷ []) (eqb-true y 92 both.0) ∙ ap (λ w. 92 ∷ w ∷ []) same))
+    let (same, behind) = found_is z x s rest e in (
+      y ∷ z ∷ [],
+      ap (λ t. y ∷ z ∷ t) behind,
+      inr (subst (λ w. is_escaped w ≡ true) same both.1, ap (λ w. w ∷ z ∷ []) (eqb-true y 92 both.0) ∙ ap (λ w. 92 ∷ w ∷ []) same),
+    )
 from_two y z x s rest false false plain escaped e = absurd (cc)
 
 pub letter_sound : (s : List ℕ) (x : ℕ) (rest : List ℕ) → letter_front s ≡ Some (x, rest) → (text : List ℕ) × (s ≡ text ++ rest) × SpellsLetter text x
@@ -122,10 +124,11 @@ from_range : (s text tail rest : List ℕ) (x y : ℕ) (behind : List ℕ) (r : 
 from_range s text tail rest x y behind r true e spelled (last, f, spelled_last) ordered g =
     let range : Range = record { first = x; last = y } in
     let (same, end) = found_is range r behind rest g in
-    let below : x ≤ y = grind (arith, nat_tests) in
-    (text ++ 45 ∷ last,
-    e ∙ ap (λ t. text ++ 45 ∷ t) (f ∙ ap (λ t. last ++ t) end) ∙ sym (append_assoc text (45 ∷ last) rest),
-    subst (λ (q : Range). SpellsItem (text ++ 45 ∷ last) q) same (inr (text, last, refl, spelled, spelled_last, below)))
+    let below : x ≤ y = grind (arith, nat_tests) in (
+      text ++ 45 ∷ last,
+      e ∙ ap (λ t. text ++ 45 ∷ t) (f ∙ ap (λ t. last ++ t) end) ∙ sym (append_assoc text (45 ∷ last) rest),
+      subst (λ (q : Range). SpellsItem (text ++ 45 ∷ last) q) same (inr (text, last, refl, spelled, spelled_last, below)),
+    )
 from_range s text tail rest x y behind r false e spelled found ordered g = absurd (cc)
 
 from_behind : (s text : List ℕ) (x : ℕ) (behind rest : List ℕ) (r : Range) → s ≡ text ++ behind → SpellsLetter text x → item_behind x behind ≡ Some (r, rest) → Item s r rest

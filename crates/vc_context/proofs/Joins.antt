@@ -83,11 +83,17 @@ cross_sound (b ∷ s) next e = at_blank (is_blank b) refl e
     at_blank true first f =
         let (blanks, text, are) = blanks_before s in
         let (y, same, last) = behind_sound (skip s) next f in
-        let (front, x, rest, spaced, blank) = last_blank b blanks first are in
-        (x ∷ 120 ∷ y ∷ [], (x, y, refl, blank, last),
-        (front, next,
-        ap (λ t. b ∷ t) (text ∙ ap (λ t. blanks ++ t) same) ∙ ap (λ t. t ++ (120 ∷ y ∷ next)) rest ∙ append_assoc front (x ∷ []) (120 ∷ y ∷ next),
-        spaced, refl))
+        let (front, x, rest, spaced, blank) = last_blank b blanks first are in (
+          x ∷ 120 ∷ y ∷ [],
+          (x, y, refl, blank, last),
+          (
+            front,
+            next,
+            ap (λ t. b ∷ t) (text ∙ ap (λ t. blanks ++ t) same) ∙ ap (λ t. t ++ (120 ∷ y ∷ next)) rest ∙ append_assoc front (x ∷ []) (120 ∷ y ∷ next),
+            spaced,
+            refl,
+          ),
+        )
     at_blank false first f = absurd (cc)
 
 mark_sound : (style : Style) (s next : List ℕ) → mark_by style s ≡ Some next → Mark style s next
@@ -193,9 +199,11 @@ module _ (listed : AreListed) where
       let (first_same, rest_same) = cons_is t (tape_of set) ts (map tape_of (other ∷ sets)) same in
       let (front, is, first) = one_sound style set s middle (e ∙ ap (λ u. found u middle) first_same) in
       let (mark, is_mark, marks) = mark_sound style middle next marked in
-      let (behind, joined, more) = others (other ∷ sets) rest_same in
-      (front ++ mark ∷ behind, (front, behind, mark, refl, is, is_mark, joined),
-      begins_both front (mark ∷ behind) s middle rest first (begins_both (mark ∷ []) behind middle next rest marks more))
+      let (behind, joined, more) = others (other ∷ sets) rest_same in (
+        front ++ mark ∷ behind,
+        (front, behind, mark, refl, is, is_mark, joined),
+        begins_both front (mark ∷ behind) s middle rest first (begins_both (mark ∷ []) behind middle next rest marks more),
+      )
 
   pub joined_sound : (style : Style) (n : ℕ) (sets : List TapeSet) (s rest : List ℕ) → tapes_by style n s ≡ found (map tape_of sets) rest → Several style sets s rest
   joined_sound style zero sets s rest e =

@@ -28,10 +28,12 @@ before_more piece before behind a s middle rest e (text, spells, begins) =
 -- one more piece behind it
 behind_more : (piece : List ℕ) (before behind : List (List ℕ)) (a : Alphabet) (s middle rest : List ℕ)
     → Framed before behind a s middle → after piece middle ≡ Some rest → Framed before (behind ++ piece ∷ []) a s rest
-behind_more piece before behind a s middle rest (text, spells, begins) e =
-    (text, spells,
-    subst (λ (p : List (List ℕ)). Begins p s rest) (append_assoc before (text ∷ behind) (piece ∷ []))
-    (begins_both (before ++ text ∷ behind) (piece ∷ []) s middle rest begins (begins_one piece middle rest e)))
+behind_more piece before behind a s middle rest (text, spells, begins) e = (
+  text,
+  spells,
+  subst (λ (p : List (List ℕ)). Begins p s rest) (append_assoc before (text ∷ behind) (piece ∷ []))
+      (begins_both (before ++ text ∷ behind) (piece ∷ []) s middle rest begins (begins_one piece middle rest e)),
+)
 
 -- the kind and the letters of a tape that was read
 tape_is : (kind : TapeKind) (letters : List ℕ) (set : TapeSet) → (let t : Tape = record { kind = kind; letters = letters } in t) ≡ tape_of set
@@ -65,10 +67,11 @@ module _ (listed : AreListed) where
       let (same, shut) = closed_some (codes ">") inside.0.0 (tape_of set) inside.0.1 rest inside.2 in
       let (is_kind, framed) = called_sound kind set second.0 inside.0.1 (inside.1 ∙ ap (λ t. found t inside.0.1) same) in
       let more : Framed (codes "(" ∷ []) (codes ")" ∷ codes ">" ∷ []) set.alphabet second.0 rest =
-      behind_more (codes ">") (codes "(" ∷ []) (codes ")" ∷ []) set.alphabet second.0 inside.0.1 rest framed shut in
-      (is_kind,
-      before_more (codes "<") (name ∷ codes "(" ∷ []) (codes ")" ∷ codes ">" ∷ []) set.alphabet s first.0 rest first.1
-      (before_more name (codes "(" ∷ []) (codes ")" ∷ codes ">" ∷ []) set.alphabet first.0 second.0 rest second.1 more))
+      behind_more (codes ">") (codes "(" ∷ []) (codes ")" ∷ []) set.alphabet second.0 inside.0.1 rest framed shut in (
+        is_kind,
+        before_more (codes "<") (name ∷ codes "(" ∷ []) (codes ")" ∷ codes ">" ∷ []) set.alphabet s first.0 rest first.1
+            (before_more name (codes "(" ∷ []) (codes ")" ∷ codes ">" ∷ []) set.alphabet first.0 second.0 rest second.1 more),
+      )
 
   -- a frame among these stands at the front of a text
   abbrev AmongFrames : List Frame → Alphabet → List ℕ → List ℕ → Type 0
@@ -78,21 +81,31 @@ module _ (listed : AreListed) where
       → In frame frames → frame.before ≡ name ∷ codes "(" ∷ [] → frame.behind ≡ codes ")" ∷ []
       → after name s ≡ Some middle → called_front kind middle ≡ found (tape_of set) rest → (set.kind ≡ kind) × AmongFrames frames set.alphabet s rest
   among_first name kind set frame frames s middle rest member before behind e f =
-      let (same, framed) = called_sound kind set middle rest f in
-      (same, (frame, member,
-      subst (λ (p : List (List ℕ)). Framed p frame.behind set.alphabet s rest) (sym before)
-      (subst (λ (p : List (List ℕ)). Framed (name ∷ codes "(" ∷ []) p set.alphabet s rest) (sym behind)
-      (before_more name (codes "(" ∷ []) (codes ")" ∷ []) set.alphabet s middle rest e framed))))
+      let (same, framed) = called_sound kind set middle rest f in (
+        same,
+        (
+          frame,
+          member,
+          subst (λ (p : List (List ℕ)). Framed p frame.behind set.alphabet s rest) (sym before)
+              (subst (λ (p : List (List ℕ)). Framed (name ∷ codes "(" ∷ []) p set.alphabet s rest) (sym behind)
+              (before_more name (codes "(" ∷ []) (codes ")" ∷ []) set.alphabet s middle rest e framed)),
+        ),
+      )
 
   among_angled : (name inner : List ℕ) (kind : TapeKind) (set : TapeSet) (frame : Frame) (frames : List Frame) (s middle rest : List ℕ)
       → In frame frames → frame.before ≡ name ∷ codes "<" ∷ inner ∷ codes "(" ∷ [] → frame.behind ≡ codes ")" ∷ codes ">" ∷ []
       → after name s ≡ Some middle → angled_front kind inner middle ≡ found (tape_of set) rest → (set.kind ≡ kind) × AmongFrames frames set.alphabet s rest
   among_angled name inner kind set frame frames s middle rest member before behind e f =
-      let (same, framed) = angled_sound kind inner set middle rest f in
-      (same, (frame, member,
-      subst (λ (p : List (List ℕ)). Framed p frame.behind set.alphabet s rest) (sym before)
-      (subst (λ (p : List (List ℕ)). Framed (name ∷ codes "<" ∷ inner ∷ codes "(" ∷ []) p set.alphabet s rest) (sym behind)
-      (before_more name (codes "<" ∷ inner ∷ codes "(" ∷ []) (codes ")" ∷ codes ">" ∷ []) set.alphabet s middle rest e framed))))
+      let (same, framed) = angled_sound kind inner set middle rest f in (
+        same,
+        (
+          frame,
+          member,
+          subst (λ (p : List (List ℕ)). Framed p frame.behind set.alphabet s rest) (sym before)
+              (subst (λ (p : List (List ℕ)). Framed (name ∷ codes "<" ∷ inner ∷ codes "(" ∷ []) p set.alphabet s rest) (sym behind)
+              (before_more name (codes "<" ∷ inner ∷ codes "(" ∷ []) (codes ")" ∷ codes ">" ∷ []) set.alphabet s middle rest e framed)),
+        ),
+      )
 
   -- one of three ways
   three_ways : {A B C Y R : Type 0} (a : Option A) (f : A → Option Y) (b : Option B) (g : B → Option Y) (c : Option C) (h : C → Option Y) (y : Y)
@@ -103,6 +116,7 @@ module _ (listed : AreListed) where
       at_second : ((x : B) × (b ≡ Some x) × (g x ≡ Some y)) ⊎ ((b ≡ None) × ((c >>= h) ≡ Some y)) → R
       at_second (inl (x, is, then_)) = second x is then_
       at_second (inr (no_, rest)) = let last = bind_some c h y rest in third last.0 last.1 last.2
+
       at_first : ((x : A) × (a ≡ Some x) × (f x ≡ Some y)) ⊎ ((a ≡ None) × (choose b g (c >>= h) ≡ Some y)) → R
       at_first (inl (x, is, then_)) = first x is then_
       at_first (inr (no_, rest)) = at_second (choose_some b g (c >>= h) y rest)
@@ -138,10 +152,15 @@ module _ (listed : AreListed) where
       let (same, shut) = closed_some (codes ">") inside.0.0 (tape_of set) inside.0.1 rest inside.2 in
       let (is_kind, (frame, member, framed)) = letters_sound Nullable set start.0 inside.0.1 (inside.1 ∙ ap (λ t. found t inside.0.1) same) in
       let more : Framed frame.before (frame.behind ++ codes ">" ∷ []) set.alphabet start.0 rest =
-      behind_more (codes ">") frame.before frame.behind set.alphabet start.0 inside.0.1 rest framed shut in
-      (is_kind, (angled (codes "nullableset") frame, inr (inr (in_angles frame letters_frames member)),
-      before_more (codes "nullableset") (codes "<" ∷ frame.before) (frame.behind ++ codes ">" ∷ []) set.alphabet s middle rest e
-      (before_more (codes "<") frame.before (frame.behind ++ codes ">" ∷ []) set.alphabet middle start.0 rest start.1 more)))
+      behind_more (codes ">") frame.before frame.behind set.alphabet start.0 inside.0.1 rest framed shut in (
+        is_kind,
+        (
+          angled (codes "nullableset") frame,
+          inr (inr (in_angles frame letters_frames member)),
+          before_more (codes "nullableset") (codes "<" ∷ frame.before) (frame.behind ++ codes ">" ∷ []) set.alphabet s middle rest e
+              (before_more (codes "<") frame.before (frame.behind ++ codes ">" ∷ []) set.alphabet middle start.0 rest start.1 more),
+        ),
+      )
 
   nullable_sound : (set : TapeSet) (s rest : List ℕ) → nullable_called s ≡ found (tape_of set) rest
       → (set.kind ≡ Nullable) × AmongFrames (named_frames Nullable) set.alphabet s rest
@@ -157,9 +176,11 @@ module _ (listed : AreListed) where
   At Is set s rest = (pieces : List (List ℕ)) × Is pieces set × Begins pieces s rest
 
   named_by : (kind : TapeKind) (set : TapeSet) (s rest : List ℕ) → set.kind ≡ kind → AmongFrames (named_frames kind) set.alphabet s rest → At IsNamed set s rest
-  named_by kind set s rest same (frame, member, (text, spells, begins)) =
-      (frame.before ++ text ∷ frame.behind,
-      (frame, subst (λ k. In frame (named_frames k)) (sym same) member, (text, refl, spells)), begins)
+  named_by kind set s rest same (frame, member, (text, spells, begins)) = (
+    frame.before ++ text ∷ frame.behind,
+    (frame, subst (λ k. In frame (named_frames k)) (sym same) member, (text, refl, spells)),
+    begins,
+  )
 
   pub named_sound : (set : TapeSet) (s rest : List ℕ) → named_front s ≡ found (tape_of set) rest → At IsNamed set s rest
   named_sound set s rest e =
@@ -169,6 +190,7 @@ module _ (listed : AreListed) where
           → At IsNamed set s rest
       at_second (inl (x, is, same)) = let (kind, among) = nullable_sound set s rest (is ∙ same) in named_by Nullable set s rest kind among
       at_second (inr (none, is)) = let (kind, among) = words_sound set s rest is in named_by Words set s rest kind among
+
       at_first : ((x : Tape × List ℕ) × (letters_called Letters s ≡ Some x) × (Some x ≡ found (tape_of set) rest))
           ⊎ ((letters_called Letters s ≡ None) × (choose (nullable_called s) Some (words_called s) ≡ found (tape_of set) rest))
           → At IsNamed set s rest
@@ -178,10 +200,11 @@ module _ (listed : AreListed) where
   -- a bracket, letters and what follows the other bracket
   bracket_by : (kind : TapeKind) (set : TapeSet) (s rest : List ℕ) → set.kind ≡ kind → Framed (bracket_frame kind).before (bracket_frame kind).behind set.alphabet s rest
       → At IsBracketed set s rest
-  bracket_by kind set s rest same (text, spells, begins) =
-      ((bracket_frame kind).before ++ text ∷ (bracket_frame kind).behind,
-      subst (λ k. IsFramed (bracket_frame k) ((bracket_frame kind).before ++ text ∷ (bracket_frame kind).behind) set.alphabet) (sym same) (text, refl, spells),
-      begins)
+  bracket_by kind set s rest same (text, spells, begins) = (
+    (bracket_frame kind).before ++ text ∷ (bracket_frame kind).behind,
+    subst (λ k. IsFramed (bracket_frame k) ((bracket_frame kind).before ++ text ∷ (bracket_frame kind).behind) set.alphabet) (sym same) (text, refl, spells),
+    begins,
+  )
 
   pub bracketed_sound : (set : TapeSet) (s rest : List ℕ) → bracketed_front s ≡ found (tape_of set) rest → At IsBracketed set s rest
   bracketed_sound set s rest e =
@@ -195,6 +218,7 @@ module _ (listed : AreListed) where
       framed kind middle letters behind is until same =
           before_more (codes "[") [] (codes "]" ∷ []) set.alphabet s middle behind is
           (alphabet_sound listed (codes "]") set.alphabet middle behind (until ∙ ap (λ l. found l behind) same))
+
       at_star : (middle : List ℕ) → after (codes "[") s ≡ Some middle → (letters behind : List ℕ) → letters_until (codes "]") middle ≡ found letters behind
           → (o : Option (List ℕ)) → after (codes "*") behind ≡ o
           → option_map_or (λ rest. with_kind Words (letters, rest)) o (with_kind Letters (letters, behind)) ≡ (let p : Tape × List ℕ = (tape_of set, rest) in p)
@@ -208,6 +232,7 @@ module _ (listed : AreListed) where
           let (kind, same) = tape_is Words letters set tape in
           bracket_by Words set s rest kind
           (behind_more (codes "*") (codes "[" ∷ []) (codes "]" ∷ []) set.alphabet s behind rest (framed Words middle letters behind is until same) (star ∙ ap Some end))
+
       at_question : (middle : List ℕ) → after (codes "[") s ≡ Some middle → (letters behind : List ℕ) → letters_until (codes "]") middle ≡ found letters behind
           → (o : Option (List ℕ)) → after (codes "?") behind ≡ o
           → option_map_or (λ rest. with_kind Nullable (letters, rest)) o (option_map_or (λ rest. with_kind Words (letters, rest)) (after (codes "*") behind) (with_kind Letters (letters, behind)))

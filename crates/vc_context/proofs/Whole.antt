@@ -187,7 +187,7 @@ arrow_read mark blanks s next (inr e) at are =
     let starts : Starts (codes "->") s = record { blanks = blanks; next = next; at = whole; are = are } in
     record {
       is_arrow = choose_not (after (codes ",") s) Some (after (codes "->") s) (none_of (codes "->") (codes "," ∷ []) s starts (λ t. refl, tt)).0
-      ∙ ap (after (codes "->")) whole ∙ after_read (codes "->") blanks next refl are;
+          ∙ ap (after (codes "->")) whole ∙ after_read (codes "->") blanks next refl are;
       ends = record {
         kind = ends_of (codes "->") s starts (λ t. refl) (λ t. refl);
         mark = ap cross whole ∙ no_cross blanks 45 (62 ∷ next) are refl refl;
@@ -258,12 +258,13 @@ module _ (listed : AreListed) where
       let are : tapes_by Commas 3 start.0 ≡ found (map tape_of sets) tapes.0.1 =
       tapes.1 ∙ ap (λ l. found l tapes.0.1) (ap (λ (p : List Tape × List ℕ). p.0) end.2 ∙ same) in
       let closing : after (codes ">") tapes.0.1 ≡ Some rest = end.1 ∙ ap Some (ap (λ (p : List Tape × List ℕ). p.1) end.2 ∙ last) in
-      let (inside, joined, begins) = joined_sound listed Commas 3 sets start.0 tapes.0.1 are in
-      (name ∷ codes "<" ∷ (inside ++ codes ">" ∷ []),
-      inr (inl (name, inside, is_name, refl, joined, (two, few_sets Commas sets start.0 tapes.0.1 are))),
-      begins_both (name ∷ []) (codes "<" ∷ (inside ++ codes ">" ∷ [])) s middle rest (begins_one name s middle e)
-      (begins_both (codes "<" ∷ []) (inside ++ codes ">" ∷ []) middle start.0 rest (begins_one (codes "<") middle start.0 start.1)
-      (begins_both inside (codes ">" ∷ []) start.0 tapes.0.1 rest begins (begins_one (codes ">") tapes.0.1 rest closing))))
+      let (inside, joined, begins) = joined_sound listed Commas 3 sets start.0 tapes.0.1 are in (
+        name ∷ codes "<" ∷ (inside ++ codes ">" ∷ []),
+        inr (inl (name, inside, is_name, refl, joined, (two, few_sets Commas sets start.0 tapes.0.1 are))),
+        begins_both (name ∷ []) (codes "<" ∷ (inside ++ codes ">" ∷ [])) s middle rest (begins_one name s middle e)
+            (begins_both (codes "<" ∷ []) (inside ++ codes ">" ∷ []) middle start.0 rest (begins_one (codes "<") middle start.0 start.1)
+            (begins_both inside (codes ">" ∷ []) start.0 tapes.0.1 rest begins (begins_one (codes ">") tapes.0.1 rest closing))),
+      )
 
   single_sound : (sets : List TapeSet) (t : Tape) (s rest : List ℕ) → named_front s ≡ found t rest → t ∷ [] ≡ map tape_of sets → Labels sets s rest
   single_sound [] t s rest e same = absurd (cc)
@@ -285,10 +286,12 @@ module _ (listed : AreListed) where
           let (t, is, g) = map_some alone (named_front s) (map tape_of sets, rest) f in
           let (same, end) = found_is (t.0 ∷ []) (map tape_of sets) t.1 rest (ap Some g) in
           single_sound sets t.0 s rest (is ∙ ap (found t.0) end) same
+
       at_tuple : ((x : List ℕ) × (after (codes "tupleset") s ≡ Some x) × (listed_front x ≡ found (map tape_of sets) rest))
           ⊎ ((after (codes "tupleset") s ≡ None) × (unlisted s ≡ found (map tape_of sets) rest)) → Labels sets s rest
       at_tuple (inl (x, is, f)) = listed_sound (codes "tupleset") s x sets rest (inr refl) is f
       at_tuple (inr (none, f)) = at_brackets (choose_some (tapes_by Crosses 3 s) Some (option_map alone (named_front s)) (map tape_of sets, rest) f)
+
       at_list : ((x : List ℕ) × (after (codes "lat") s ≡ Some x) × (listed_front x ≡ found (map tape_of sets) rest))
           ⊎ ((after (codes "lat") s ≡ None) × (choose (after (codes "tupleset") s) listed_front (unlisted s) ≡ found (map tape_of sets) rest)) → Labels sets s rest
       at_list (inl (x, is, f)) = listed_sound (codes "lat") s x sets rest (inl refl) is f
@@ -310,7 +313,7 @@ module _ (listed : AreListed) where
         is_labels = is;
         is_arrow = is_mark;
         spaced = begins_spaced (pieces ++ mark ∷ weights_name w ∷ []) text end
-        (begins_both pieces (mark ∷ weights_name w ∷ []) text p.1 end begins
-        (begins_both (mark ∷ []) (weights_name w ∷ []) p.1 next end marks (blanks, end, at, are, refl)))
-        last;
+            (begins_both pieces (mark ∷ weights_name w ∷ []) text p.1 end begins
+            (begins_both (mark ∷ []) (weights_name w ∷ []) p.1 next end marks (blanks, end, at, are, refl)))
+            last;
       }

@@ -73,11 +73,13 @@ abbrev pub AreSets : Type 0
 AreSets = (s t : Alphabet) → ((x : ℕ) → has_letter s x ≡ has_letter t x) → s ≡ t
 
 alphabet_spelled : AreListed → OnlyLetters → (a : Alphabet) → SpellsAlphabet (flat_map letter_text (letters_of a)) a
-alphabet_spelled listed letters a =
-    (map single (letters_of a), letters_spelled (letters_of a) (λ x member. letters a x ((listed a x).0 member)),
-    λ x. same_tests (has_letter a x) (is_named (map single (letters_of a)) x)
-    (λ h. in_named (letters_of a) x ((listed a x).1 h))
-    (λ h. (listed a x).0 (named_in (letters_of a) x h)))
+alphabet_spelled listed letters a = (
+  map single (letters_of a),
+  letters_spelled (letters_of a) (λ x member. letters a x ((listed a x).0 member)),
+  λ x. same_tests (has_letter a x) (is_named (map single (letters_of a)) x)
+      (λ h. in_named (letters_of a) x ((listed a x).1 h))
+      (λ h. (listed a x).0 (named_in (letters_of a) x h)),
+)
 
 -- ---- tapes
 
@@ -96,12 +98,25 @@ tape_spelled listed letters set =
 tape_begins : (set : TapeSet) (rest : List ℕ) → Begins (tape_pieces set) (tape_text set ++ rest) rest
 tape_begins set rest =
     let text : List ℕ = flat_map letter_text (letters_of set.alphabet) in
-    let last : (text ++ codes ")") ++ rest ≡ text ++ (codes ")" ++ rest) = append_assoc text (codes ")") rest in
-    ([], codes "(" ++ (text ++ (codes ")" ++ rest)),
-    append_assoc (kind_name set.kind) (codes "(" ++ (text ++ codes ")")) rest ∙ ap (λ t. kind_name set.kind ++ (codes "(" ++ t)) last, refl,
-    ([], text ++ (codes ")" ++ rest), refl, refl,
-    ([], codes ")" ++ rest, refl, refl,
-    ([], rest, refl, refl, refl))))
+    let last : (text ++ codes ")") ++ rest ≡ text ++ (codes ")" ++ rest) = append_assoc text (codes ")") rest in (
+      [],
+      codes "(" ++ (text ++ (codes ")" ++ rest)),
+      append_assoc (kind_name set.kind) (codes "(" ++ (text ++ codes ")")) rest ∙ ap (λ t. kind_name set.kind ++ (codes "(" ++ t)) last,
+      refl,
+      (
+        [],
+        text ++ (codes ")" ++ rest),
+        refl,
+        refl,
+        (
+          [],
+          codes ")" ++ rest,
+          refl,
+          refl,
+          ([], rest, refl, refl, refl),
+        ),
+      ),
+    )
 
 -- a blank before the first piece
 blank_before : (piece : List ℕ) (pieces : List (List ℕ)) (s rest : List ℕ) → Begins (piece ∷ pieces) s rest → Begins (piece ∷ pieces) (32 ∷ s) rest
@@ -152,14 +167,14 @@ labels_written listed letters (set ∷ next ∷ sets) some few =
       pieces = codes "lat" ∷ codes "<" ∷ (inside ++ codes ">" ∷ []);
       are_labels = inr (inl (codes "lat", inside, inl refl, refl, joined_spelled listed letters set (next ∷ sets), (omega arith, few)));
       begins = λ rest.
-      let regrouped : middle ++ rest ≡ tape_text set ++ (flat_map comma_text (next ∷ sets) ++ (codes ">" ++ rest)) =
-      append_assoc (tape_text set) (flat_map comma_text (next ∷ sets) ++ codes ">") rest
-      ∙ ap (λ t. tape_text set ++ t) (append_assoc (flat_map comma_text (next ∷ sets)) (codes ">") rest) in
-      let listed_begins : Begins (inside ++ codes ">" ∷ []) (middle ++ rest) rest =
-      subst (λ t. Begins (inside ++ codes ">" ∷ []) t rest) (sym regrouped)
-      (begins_both inside (codes ">" ∷ []) (tape_text set ++ (flat_map comma_text (next ∷ sets) ++ (codes ">" ++ rest))) (codes ">" ++ rest) rest
-      (joined_begins set (next ∷ sets) (codes ">" ++ rest)) ([], rest, refl, refl, refl)) in
-      ([], codes "<" ++ (middle ++ rest), refl, refl, ([], middle ++ rest, refl, refl, listed_begins));
+          let regrouped : middle ++ rest ≡ tape_text set ++ (flat_map comma_text (next ∷ sets) ++ (codes ">" ++ rest)) =
+          append_assoc (tape_text set) (flat_map comma_text (next ∷ sets) ++ codes ">") rest
+          ∙ ap (λ t. tape_text set ++ t) (append_assoc (flat_map comma_text (next ∷ sets)) (codes ">") rest) in
+          let listed_begins : Begins (inside ++ codes ">" ∷ []) (middle ++ rest) rest =
+          subst (λ t. Begins (inside ++ codes ">" ∷ []) t rest) (sym regrouped)
+          (begins_both inside (codes ">" ∷ []) (tape_text set ++ (flat_map comma_text (next ∷ sets) ++ (codes ">" ++ rest))) (codes ">" ++ rest) rest
+          (joined_begins set (next ∷ sets) (codes ">" ++ rest)) ([], rest, refl, refl, refl)) in
+          ([], codes "<" ++ (middle ++ rest), refl, refl, ([], middle ++ rest, refl, refl, listed_begins));
     }
 
 pub context_written : AreListed → OnlyLetters → (sets : List TapeSet) (weights : Weights) → 1 ≤ length sets → length sets ≤ 4
@@ -173,17 +188,17 @@ context_written listed letters sets weights some few =
       is_labels = labels.are_labels;
       is_arrow = inl refl;
       spaced = begins_spaced (labels.pieces ++ codes "," ∷ name ∷ []) (context_text sets weights) []
-      (begins_both labels.pieces (codes "," ∷ name ∷ []) (context_text sets weights) (codes ", " ++ name) [] (labels.begins (codes ", " ++ name))
-      ([], 32 ∷ name, refl, refl, (32 ∷ [], [], ap (λ t. 32 ∷ t) (sym (append-nil name)), refl, refl)))
-      refl;
+          (begins_both labels.pieces (codes "," ∷ name ∷ []) (context_text sets weights) (codes ", " ++ name) [] (labels.begins (codes ", " ++ name))
+          ([], 32 ∷ name, refl, refl, (32 ∷ [], [], ap (λ t. 32 ∷ t) (sym (append-nil name)), refl, refl)))
+          refl;
     }
 
 -- ---- at most one context
 
 same_alphabet : AreListed → AreSets → (s t : Alphabet) → letters_of s ≡ letters_of t → s ≡ t
 same_alphabet listed sets s t e = sets s t (λ x. same_tests (has_letter s x) (has_letter t x)
-  (λ h. (listed t x).0 (subst (In x) e ((listed s x).1 h)))
-  (λ h. (listed s x).0 (subst (In x) (sym e) ((listed t x).1 h))))
+    (λ h. (listed t x).0 (subst (In x) e ((listed s x).1 h)))
+    (λ h. (listed s x).0 (subst (In x) (sym e) ((listed t x).1 h))))
 
 same_tape : AreListed → AreSets → (s t : TapeSet) → tape_of s ≡ tape_of t → s ≡ t
 same_tape listed sets s t e =

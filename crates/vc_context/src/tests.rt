@@ -14,19 +14,37 @@ fn canonical(rt: &HostRuntime, text: &[u8]) -> Result<Option<String>, Fail> {
 #[test]
 fn spellings_have_one_canonical_text(rt: HostRuntime) -> Result<(), Fail> {
     for (text, wanted) in [
-        ("[ab]? x [x-z]* -> nmin", "lat<lan_char(ab), law_char(xyz)>, nmin"),
+        (
+            "[ab]? x [x-z]* -> nmin",
+            "lat<lan_char(ab), law_char(xyz)>, nmin",
+        ),
         ("lal_char( ), b", "lal_char(), b"),
         ("lal_char(ba),b", "lal_char(ab), b"),
         ("lal<char(a-c)> -> z", "lal_char(abc), z"),
         (" letterset < char_letters ( aa ) > , q ", "lal_char(a), q"),
         ("lan<char(\\-\\\\)>->f2", "lan_char(\\-\\\\), f2"),
-        ("nullableset<letterset<char_letters(b)>>, b", "lan_char(b), b"),
+        (
+            "nullableset<letterset<char_letters(b)>>, b",
+            "lan_char(b), b",
+        ),
         ("nullableset<lal<char(b)>>, b", "lan_char(b), b"),
-        ("law<char(\\!-\\/_)>, nmin", "law_char(\\!\\\"\\#\\$\\%\\&\\'\\(\\)\\*\\+\\,\\-\\.\\/_), nmin"),
+        (
+            "law<char(\\!-\\/_)>, nmin",
+            "law_char(\\!\\\"\\#\\$\\%\\&\\'\\(\\)\\*\\+\\,\\-\\.\\/_), nmin",
+        ),
         ("wordset<char_letters(0-2)>,\tz", "law_char(012), z"),
-        ("tupleset<[a],[b]?,[c]*>, b", "lat<lal_char(a), lan_char(b), law_char(c)>, b"),
-        ("lat<lal_char(a), lan_char(b), law_char(c), [d]>, b", "lat<lal_char(a), lan_char(b), law_char(c), lal_char(d)>, b"),
-        ("[a]\tx [b] x\t[c]  x  [d], q", "lat<lal_char(a), lal_char(b), lal_char(c), lal_char(d)>, q"),
+        (
+            "tupleset<[a],[b]?,[c]*>, b",
+            "lat<lal_char(a), lan_char(b), law_char(c)>, b",
+        ),
+        (
+            "lat<lal_char(a), lan_char(b), law_char(c), [d]>, b",
+            "lat<lal_char(a), lan_char(b), law_char(c), lal_char(d)>, b",
+        ),
+        (
+            "[a]\tx [b] x\t[c]  x  [d], q",
+            "lat<lal_char(a), lal_char(b), lal_char(c), lal_char(d)>, q",
+        ),
         ("[ x-z ] * , z", "law_char(xyz), z"),
     ] {
         let found = canonical(&rt, text.as_bytes())?.ok_or(text)?;

@@ -114,6 +114,19 @@ fn push_labels<L: LabelSet>(labels: &L, into: &mut String) -> Result<(), AllocEr
     push_byte(b'>', into)
 }
 
+// Appends the text of a label set.
+fn push_any(labels: &AnyLabels, into: &mut String) -> Result<(), AllocError>
+    ensures ok { OnOk result (string_bytes into.new ≡ string_bytes into.old ++ labels_text (tapes_of labels.now)) }
+    ensures longer { IsLonger (string_bytes into.old) (string_bytes into.new) }
+{
+    match labels {
+        AnyLabels::Letters(labels) => push_labels(labels, into),
+        AnyLabels::Nullable(labels) => push_labels(labels, into),
+        AnyLabels::Words(labels) => push_labels(labels, into),
+        AnyLabels::Tuple(labels) => push_labels(labels, into),
+    }
+}
+
 // The name of the weight set.
 fn weights_name(weights: Weights) -> &'static str
     ensures value { result.now ≡ weights_name weights }
@@ -134,12 +147,7 @@ fn push_context(context: &AnyContext, into: &mut String) -> Result<(), AllocErro
     ensures ok { OnOk result (string_bytes into.new ≡ string_bytes into.old ++ context_text (tapes_of context.now.labels) context.now.weights) }
     ensures longer { IsLonger (string_bytes into.old) (string_bytes into.new) }
 {
-    match &context.labels {
-        AnyLabels::Letters(labels) => push_labels(labels, into)?,
-        AnyLabels::Nullable(labels) => push_labels(labels, into)?,
-        AnyLabels::Words(labels) => push_labels(labels, into)?,
-        AnyLabels::Tuple(labels) => push_labels(labels, into)?,
-    }
+    push_any(&context.labels, into)?;
     push_text(", ", into)?;
     push_text(weights_name(context.weights), into)
 }

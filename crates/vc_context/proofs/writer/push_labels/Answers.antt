@@ -11,5 +11,5 @@ loop-i-preserved g c =
     record {
       longer = longer_twice old before now c.loop-i.invariant.longer c.push_behind.ensures.longer;
       rest = tapes_next (g.L.LabelSet.sets c.args.labels.now) c.loop-i.i c.tape-in-loop-i.result before now (old ++ labels_text (g.L.LabelSet.sets c.args.labels.now))
-      c.tape-in-loop-i.ensures c.in_ok-push_behind.ensures.ok c.loop-i.invariant.rest;
+          c.tape-in-loop-i.ensures c.in_ok-push_behind.ensures.ok c.loop-i.invariant.rest;
     }

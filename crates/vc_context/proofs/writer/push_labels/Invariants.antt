@@ -9,5 +9,5 @@ abbrev pub invariant-loop-i : goal.invariant-loop-i
 invariant-loop-i g l = record {
   longer : IsLonger (string_bytes l.fn.into) (string_bytes l.into);
   rest : string_bytes l.into ++ (flat_map comma_text (drop l.i (g.L.LabelSet.sets l.labels)) ++ codes ">")
-  ≡ string_bytes l.fn.into ++ labels_text (g.L.LabelSet.sets l.labels);
+      ≡ string_bytes l.fn.into ++ labels_text (g.L.LabelSet.sets l.labels);
 }

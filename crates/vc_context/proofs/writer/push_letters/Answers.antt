@@ -17,13 +17,13 @@ pub loop-letter-preserved : goal.loop-letter-preserved
 loop-letter-preserved c =
     elim c.if-has.branch [
       | then-has+in_ok-push_letter w ↦ rw w.into-is (record {
-          longer = longer_twice (string_bytes c.args.into.now) (string_bytes c.loop-letter.into) (string_bytes w.push_letter.new.into) c.loop-letter.invariant.longer w.push_letter.ensures.longer;
-          rest = letter_more c.args.alphabet c.loop-letter.letter (string_bytes c.loop-letter.into) (string_bytes w.push_letter.new.into) _ (omega arith) (sym c.has.ensures ∙ w.if-has.true) w.in_ok-push_letter.ensures.ok c.loop-letter.invariant.rest;
-        })
+        longer = longer_twice (string_bytes c.args.into.now) (string_bytes c.loop-letter.into) (string_bytes w.push_letter.new.into) c.loop-letter.invariant.longer w.push_letter.ensures.longer;
+        rest = letter_more c.args.alphabet c.loop-letter.letter (string_bytes c.loop-letter.into) (string_bytes w.push_letter.new.into) _ (omega arith) (sym c.has.ensures ∙ w.if-has.true) w.in_ok-push_letter.ensures.ok c.loop-letter.invariant.rest;
+      })
       | else-has w ↦ rw w.into-is (record {
-          longer = c.loop-letter.invariant.longer;
-          rest = letter_other c.args.alphabet c.loop-letter.letter (string_bytes c.loop-letter.into) _ (omega arith) (sym c.has.ensures ∙ w.if-has.false) c.loop-letter.invariant.rest;
-        })
+        longer = c.loop-letter.invariant.longer;
+        rest = letter_other c.args.alphabet c.loop-letter.letter (string_bytes c.loop-letter.into) _ (omega arith) (sym c.has.ensures ∙ w.if-has.false) c.loop-letter.invariant.rest;
+      })
     ]
 
 pub returns : goal.returns
