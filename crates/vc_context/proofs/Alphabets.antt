@@ -3,12 +3,11 @@ use Rattle.std.proofs.Common.{◌≡◌, ℕ, zero, suc, ◌+◌, ◌<◌, ◌�
 use Rattle.std.proofs.lemmas.Bool.Decides.{nat_tests}
 use Rattle.std.proofs.lemmas.Grind.{common_steps}
 use Rattle.std.proofs.lemmas.List.Elements.{filter_agree}
-use Rattle.std.specs.List.{list_any}
 use Rattle.std.specs.Option.{option_map, option_map_or}
 use Rattle.std.specs.Prelude.{if◌then◌else◌, ◌==◌, nat_le}
-use Rattle.vc_context.specs.Reading.{Front, ◌>>=◌, skip, after, closed, letter_front, item_behind, item_front, items_by, items_front, letters_in, letters_front, letters_until}
+use Rattle.vc_context.specs.Reading.{Front, ◌>>=◌, skip, after, closed, item_behind, item_front, items_by, items_front, letters_in, letters_until}
 use Rattle.vc_context.specs.Spelling.{Range, AreBlanks, SpellsItem, SpellsItems, SpellsAlphabet, is_between, is_named}
-use Rattle.vc_context.proofs.Fronts.{Begins, both_true, skip_blanks, skip_other, blanks_before, after_sound, after_read, after_blanks}
+use Rattle.vc_context.proofs.Fronts.{Begins, both_true, skip_blanks, skip_other, blanks_before, after_sound, after_read}
 use Rattle.vc_context.proofs.Items.{NoDash, item_read, item_sound, spelled_is_letter}
 use Rattle.vc_context.proofs.Steps.{map_some, map_is, found, found_is}
 use Rattle.vc_label.specs.Alphabets.{has_letter, letters_of}

@@ -1,10 +1,9 @@
 -- Texts that grow by bytes below 128.
-use Rattle.std.proofs.Common.{◌≡◌, ℕ, suc, ◌+◌, ◌-◌, ◌<◌, ◌≤◌, Bool, true, false, ◌&&◌, List, [], ◌∷◌, ◌++◌, length, drop, Option, Some, refl, ap, sym, ◌∙◌, subst, append_assoc, append-nil, length-append, arith}
+use Rattle.std.proofs.Common.{◌≡◌, ℕ, suc, ◌+◌, ◌-◌, ◌<◌, ◌≤◌, Bool, true, false, List, [], ◌∷◌, ◌++◌, length, drop, Some, refl, ap, sym, ◌∙◌, append_assoc, append-nil, arith}
 use Rattle.std.proofs.lemmas.Bool.Decides.{nat_tests}
-use Rattle.std.specs.List.{list_all}
-use Rattle.std.specs.List.{flat_map, filter}
+use Rattle.std.specs.List.{list_all, flat_map, filter}
 use Rattle.std.specs.Prelude.{nat_lt, if◌then◌else◌, codes, slice_get}
-use Rattle.std.proofs.lemmas.List.{drop_more, drop_all}
+use Rattle.std.proofs.lemmas.List.{drop_more}
 use Rattle.std.proofs.lemmas.Option.{slice_get_within, get_or_from_slice_get}
 use Rattle.vc_context.specs.Canonical.{letter_text, tape_text, comma_text, labels_text}
 use Rattle.vc_context.specs.Growth.{IsAscii, IsLonger}
@@ -87,29 +86,8 @@ letters_end a x s all end before =
 -- ---- tapes, one after another
 
 -- a text that grew by one more, where what is to come is known
-grown : (old s t first rest all : List ℕ) → t ≡ s ++ first → s ++ (first ++ rest) ≡ all → t ++ rest ≡ all
-grown old s t first rest all added before = ap (λ u. u ++ rest) added ∙ append_assoc s first rest ∙ before
-
--- the text of one tape
-pub tapes_one : (sets : List TapeSet) (set : TapeSet) (old t : List ℕ) → length sets ≡ 1 → slice_get sets 0 ≡ Some set → t ≡ old ++ tape_text set → t ≡ old ++ labels_text sets
-tapes_one [] set old t one first added = absurd (omega arith)
-tapes_one (a ∷ []) set old t one first added =
-    let same : a ≡ set = cc in
-    added ∙ ap (λ x. old ++ tape_text x) (sym same)
-tapes_one (a ∷ b ∷ sets) set old t one first added = absurd (omega arith)
-
--- the first of several tapes
-pub tapes_first : (sets : List TapeSet) (set : TapeSet) (old s t : List ℕ) → 2 ≤ length sets → slice_get sets 0 ≡ Some set
-    → s ≡ old ++ codes "lat<" → t ≡ s ++ tape_text set
-    → t ++ (flat_map comma_text (drop 1 sets) ++ codes ">") ≡ old ++ labels_text sets
-tapes_first [] set old s t several first begun added = absurd (omega arith)
-tapes_first (a ∷ []) set old s t several first begun added = absurd (omega arith)
-tapes_first (a ∷ b ∷ sets) set old s t several first begun added =
-    let same : a ≡ set = cc in
-    let rest : List ℕ = flat_map comma_text (b ∷ sets) ++ codes ">" in
-    grown old s t (tape_text set) rest (old ++ labels_text (a ∷ b ∷ sets)) added
-    (ap (λ u. u ++ (tape_text set ++ rest)) begun ∙ append_assoc old (codes "lat<") (tape_text set ++ rest)
-    ∙ ap (λ x. old ++ (codes "lat<" ++ (tape_text x ++ rest))) (sym same))
+grown : (s t first rest all : List ℕ) → t ≡ s ++ first → s ++ (first ++ rest) ≡ all → t ++ rest ≡ all
+grown s t first rest all added before = ap (λ u. u ++ rest) added ∙ append_assoc s first rest ∙ before
 
 -- the tape at a place, and those behind it
 drop_here : (sets : List TapeSet) (i : ℕ) (set : TapeSet) → slice_get sets i ≡ Some set → drop i sets ≡ set ∷ drop (i + 1) sets
@@ -122,10 +100,5 @@ pub tapes_next : (sets : List TapeSet) (i : ℕ) (set : TapeSet) (s t all : List
 tapes_next sets i set s t all here added before =
     let rest : List ℕ = flat_map comma_text (drop (i + 1) sets) in
     let same : flat_map comma_text (drop i sets) ≡ comma_text set ++ rest = ap (flat_map comma_text) (drop_here sets i set here) in
-    grown s s t (comma_text set) (rest ++ codes ">") all added
+    grown s t (comma_text set) (rest ++ codes ">") all added
     (ap (λ u. s ++ u) (sym (append_assoc (comma_text set) rest (codes ">"))) ∙ ap (λ u. s ++ (u ++ codes ">")) (sym same) ∙ before)
-
-pub tapes_last : (sets : List TapeSet) (i : ℕ) (s t all : List ℕ) → length sets ≤ i → t ≡ s ++ codes ">"
-    → s ++ (flat_map comma_text (drop i sets) ++ codes ">") ≡ all → t ≡ all
-tapes_last sets i s t all end added before =
-    added ∙ ap (λ (l : List TapeSet). s ++ (flat_map comma_text l ++ codes ">")) (sym (drop_all i sets end)) ∙ before

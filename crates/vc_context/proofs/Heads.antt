@@ -1,13 +1,13 @@
 -- Tapes are read by how they begin.
-use Rattle.std.proofs.Common.{◌≡◌, ◌⊎◌, ℕ, List, [], ◌∷◌, ◌++◌, Option, Some, None, refl, ap, sym, ◌∙◌, subst, inl, inr}
-use Rattle.std.specs.Prelude.{codes, map}
+use Rattle.std.proofs.Common.{◌≡◌, ℕ, List, [], ◌∷◌, ◌++◌, Some, None, refl, ap, ◌∙◌, subst, inl, inr}
+use Rattle.std.specs.Prelude.{codes}
 use Rattle.std.specs.Option.{option_map, option_map_or}
-use Rattle.vc_context.specs.Reading.{Front, ◌>>=◌, after, letters_until, Tape, tape_of, with_kind, called_front, angled_front, letters_called, nullable_set, nullable_called, words_called, kind_behind, bracketed_front, named_front, tape_front, choose}
-use Rattle.vc_context.specs.Spelling.{Frame, AreBlanks, SpellsAlphabet, letters_frames, named_frames, bracket_frame, IsFramed, IsNamed, IsBracketed, IsTape, angled}
+use Rattle.vc_context.specs.Reading.{◌>>=◌, after, letters_until, Tape, tape_of, with_kind, called_front, angled_front, letters_called, nullable_set, nullable_called, words_called, kind_behind, bracketed_front, named_front, tape_front, choose}
+use Rattle.vc_context.specs.Spelling.{Frame, AreBlanks, SpellsAlphabet, letters_frames, named_frames, bracket_frame, IsFramed, IsNamed, IsBracketed, IsTape}
 use Rattle.vc_context.proofs.Alphabets.{alphabet_read, bracket_closes}
-use Rattle.vc_context.proofs.Fronts.{Begins, after_read, after_blanks, begins_split}
+use Rattle.vc_context.proofs.Fronts.{Begins, after_blanks, begins_split}
 use Rattle.vc_context.proofs.OneTape.{Framed}
-use Rattle.vc_context.proofs.OneRead.{piece_read, tape_with, letters_read, nullable_read, words_read, other_name, angled_member}
+use Rattle.vc_context.proofs.OneRead.{piece_read, tape_with, letters_read, nullable_read, words_read, angled_member}
 use Rattle.vc_context.proofs.Steps.{bind_is, map_is, choose_is, choose_not, found}
 use Rattle.vc_label.specs.Alphabets.{letters_of}
 use Rattle.vc_label.specs.declared.alphabet.Alphabet.{Alphabet}

@@ -1,18 +1,17 @@
 -- Letters and items at the front of a text.
-use Rattle.std.proofs.Common.{◌≡◌, ℕ, zero, suc, ◌+◌, ◌<◌, ◌≤◌, Bool, true, false, ◌&&◌, ◌||◌, ◌⊎◌, List, [], ◌∷◌, ◌++◌, length, drop, Option, Some, None, refl, ap, sym, ◌∙◌, subst, append_assoc, length-append, inl, inr, arith, IsTrue}
+use Rattle.std.proofs.Common.{◌≡◌, ℕ, ◌+◌, ◌≤◌, Bool, true, false, ◌&&◌, List, [], ◌∷◌, ◌++◌, drop, Some, None, refl, ap, sym, ◌∙◌, subst, append_assoc, inl, inr, arith, IsTrue}
 use Rattle.std.proofs.lemmas.Bool.{eqb-true}
-use Rattle.std.proofs.lemmas.Bool.Decides.{Decides-eqb, nat_tests}
+use Rattle.std.proofs.lemmas.Bool.Decides.{nat_tests}
 use Rattle.std.proofs.lemmas.Grind.{common_steps}
-use Rattle.std.specs.Option.{option_map, option_map_or}
+use Rattle.std.specs.Option.{option_map}
 use Rattle.std.specs.Prelude.{if◌then◌else◌, ◌==◌, nat_le}
-use Rattle.vc_context.specs.Reading.{Front, ◌>>=◌, letter_front, single, range_to, item_behind, item_front, items_by}
-use Rattle.vc_context.specs.Spelling.{Range, SpellsItem, SpellsItems}
+use Rattle.vc_context.specs.Reading.{letter_front, single, range_to, item_behind, item_front}
+use Rattle.vc_context.specs.Spelling.{Range, SpellsItem}
 use Rattle.vc_context.proofs.Fronts.{both_true}
-use Rattle.vc_context.proofs.Steps.{bind_some, map_some, bind_is, found, found_is}
+use Rattle.vc_context.proofs.Steps.{bind_some, bind_is, found, found_is}
 use Rattle.vc_label.specs.Letters.{is_letter}
 use Rattle.vc_lex.specs.Grammar.{SpellsLetter}
-use Rattle.vc_lex.specs.Letters.{is_plain, is_escaped, letter_in}
-use Rattle.vc_lex.specs.Scans.{is_blank}
+use Rattle.vc_lex.specs.Letters.{is_plain, is_escaped}
 use Rattle.vc_lex.specs.declared.letters.LetterAt.{LetterAt}
 
 -- letters are bytes from 0x21 to 0x7E

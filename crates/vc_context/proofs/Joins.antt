@@ -1,15 +1,15 @@
 -- Tapes one behind another, with commas or with crosses.
-use Rattle.std.proofs.Common.{◌≡◌, ◌⊎◌, ℕ, zero, suc, ◌≤◌, Bool, true, false, ◌&&◌, List, [], ◌∷◌, ◌++◌, length, Option, Some, None, refl, ap, sym, ◌∙◌, subst, append_assoc, inl, inr, arith}
+use Rattle.std.proofs.Common.{◌≡◌, ◌⊎◌, ℕ, zero, suc, ◌≤◌, Bool, true, false, ◌&&◌, List, [], ◌∷◌, ◌++◌, length, Some, None, refl, ap, ◌∙◌, subst, append_assoc, inl, inr, arith}
 use Rattle.std.proofs.lemmas.Bool.{eqb-true}
 use Rattle.std.specs.Prelude.{codes, map, if◌then◌else◌, ◌==◌}
 use Rattle.std.specs.List.{list_all}
 use Rattle.std.specs.Option.{option_map}
-use Rattle.vc_context.specs.Reading.{Front, ◌>>=◌, skip, strip, after, Tape, tape_of, choose, cross_behind, cross, one_by, mark_by, before, tapes_by}
+use Rattle.vc_context.specs.Reading.{Front, skip, strip, after, Tape, tape_of, choose, cross_behind, cross, one_by, mark_by, before, tapes_by}
 use Rattle.vc_context.specs.Spelling.{AreBlanks, IsBracketed, IsTape, AreJoined, IsComma, IsCross}
 use Rattle.vc_context.specs.declared.joined.Style.{Style}
 use Rattle.vc_context.specs.declared.joined.Style.TheVariants.{Commas, Crosses}
 use Rattle.vc_context.proofs.Alphabets.{AreListed}
-use Rattle.vc_context.proofs.Fronts.{Begins, both_true, are_both, skip_blank, skip_other, skip_blanks, blanks_before, begins_one, begins_both, begins_split, after_sound, after_read, after_blanks}
+use Rattle.vc_context.proofs.Fronts.{Begins, both_true, are_both, skip_blank, skip_other, skip_blanks, blanks_before, begins_one, begins_both, begins_split, after_read, after_blanks}
 use Rattle.vc_context.proofs.Heads.{Starts, NoKind, bracketed_read, bracketed_starts, tape_read}
 use Rattle.vc_context.proofs.OneTape.{At, bracketed_sound, tape_sound}
 use Rattle.vc_context.proofs.Steps.{bind_some, map_some, choose_some, bind_is, map_is, choose_is, choose_not, found, found_is}

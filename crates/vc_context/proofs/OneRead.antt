@@ -1,20 +1,19 @@
 -- The set of one tape: what is in the grammar is read.
-use Rattle.std.proofs.Common.{◌≡◌, ◌⊎◌, ℕ, Bool, true, false, List, [], ◌∷◌, ◌++◌, Option, Some, None, refl, ap, sym, ◌∙◌, subst, append_assoc, inl, inr}
+use Rattle.std.proofs.Common.{◌≡◌, ℕ, Bool, true, false, List, [], ◌∷◌, ◌++◌, Option, Some, None, refl, ap, sym, ◌∙◌, subst, append_assoc, inl, inr}
 use Rattle.std.proofs.lemmas.Bool.{eqb-true}
 use Rattle.std.specs.Prelude.{codes, map, if◌then◌else◌, ◌==◌}
 use Rattle.std.specs.List.{list_all}
-use Rattle.std.specs.Option.{option_map, option_map_or}
-use Rattle.vc_context.specs.Reading.{Front, ◌>>=◌, skip, strip, after, closed, letters_until, Tape, tape_of, with_kind, called_front, angled_front, letters_called, nullable_set, nullable_called, words_called, kind_behind, bracketed_front, named_front, tape_front, choose}
-use Rattle.vc_context.specs.Spelling.{Frame, AreBlanks, SpellsAlphabet, letters_frames, named_frames, bracket_frame, IsFramed, IsNamed, IsBracketed, IsTape, angled}
-use Rattle.vc_context.proofs.Alphabets.{alphabet_read, parenthesis_closes, bracket_closes}
-use Rattle.vc_context.proofs.Fronts.{Begins, both_true, after_read, after_blanks, skip_blanks, begins_split}
+use Rattle.std.specs.Option.{option_map}
+use Rattle.vc_context.specs.Reading.{Front, ◌>>=◌, skip, strip, after, closed, letters_until, Tape, with_kind, called_front, angled_front, letters_called, nullable_set, nullable_called, words_called, choose}
+use Rattle.vc_context.specs.Spelling.{Frame, AreBlanks, SpellsAlphabet, letters_frames, named_frames, angled}
+use Rattle.vc_context.proofs.Alphabets.{alphabet_read, parenthesis_closes}
+use Rattle.vc_context.proofs.Fronts.{Begins, both_true, after_read, after_blanks, begins_split}
 use Rattle.vc_context.proofs.OneTape.{Framed}
 use Rattle.vc_context.proofs.Steps.{bind_is, map_is, choose_is, choose_not, found}
 use Rattle.vc_label.specs.Alphabets.{letters_of}
 use Rattle.vc_label.specs.declared.alphabet.Alphabet.{Alphabet}
 use Rattle.vc_label.specs.declared.tape_set.TapeKind.{TapeKind}
-use Rattle.vc_label.specs.declared.tape_set.TapeKind.TheVariants.{Letters, Nullable, Words}
-use Rattle.vc_label.specs.declared.tape_set.TapeSet.{TapeSet}
+use Rattle.vc_label.specs.declared.tape_set.TapeKind.TheVariants.{Nullable, Words}
 use Rattle.vc_lex.specs.Scans.{is_blank}
 use Rattle.vc_model.specs.Lists.{In}
 

@@ -2,7 +2,7 @@
 use Rattle.std.proofs.Common.{◌≡◌, ◌⊎◌, ℕ, List, [], ◌∷◌, ◌++◌, Option, Some, None, refl, ap, sym, ◌∙◌, subst, append_assoc, inl, inr}
 use Rattle.std.specs.Prelude.{codes, map}
 use Rattle.std.specs.Option.{option_map, option_map_or}
-use Rattle.vc_context.specs.Reading.{Front, ◌>>=◌, after, closed, letters_until, Tape, tape_of, with_kind, called_front, angled_front, letters_called, nullable_set, nullable_called, words_called, kind_behind, bracketed_front, named_front, tape_front, choose}
+use Rattle.vc_context.specs.Reading.{◌>>=◌, after, closed, letters_until, Tape, tape_of, with_kind, called_front, angled_front, letters_called, nullable_set, nullable_called, words_called, kind_behind, bracketed_front, named_front, tape_front, choose}
 use Rattle.vc_context.specs.Spelling.{Frame, SpellsAlphabet, letters_frames, named_frames, bracket_frame, IsFramed, IsNamed, IsBracketed, IsTape, angled}
 use Rattle.vc_context.proofs.Alphabets.{AreListed, alphabet_sound}
 use Rattle.vc_context.proofs.Fronts.{Begins, after_sound, begins_one, begins_both}

@@ -1,12 +1,12 @@
 -- Label sets and whole contexts, both ways.
-use Rattle.std.proofs.Common.{◌≡◌, ◌⊎◌, ℕ, suc, ◌≤◌, Bool, true, false, List, [], ◌∷◌, ◌++◌, length, Option, Some, None, refl, ap, sym, ◌∙◌, subst, append_assoc, inl, inr, arith}
+use Rattle.std.proofs.Common.{◌≡◌, ◌⊎◌, ℕ, ◌≤◌, Bool, true, false, List, [], ◌∷◌, ◌++◌, length, Option, Some, None, refl, ap, sym, ◌∙◌, subst, inl, inr, arith}
 use Rattle.std.proofs.lemmas.Bool.Decides.{nat_tests}
 use Rattle.std.proofs.lemmas.List.{length-map}
 use Rattle.std.specs.Prelude.{codes, map, nat_le, if◌then◌else◌}
 use Rattle.std.specs.List.{list_all}
 use Rattle.std.specs.Option.{option_map, option_map_or}
 use Rattle.vc_context.specs.Reading.{Front, ◌>>=◌, after, closed, Tape, tape_of, choose, cross, named_front, tapes_by, several, listed_front, labels_front, arrow, is_last, weights_at, context_at}
-use Rattle.vc_context.specs.Spelling.{AreBlanks, Spaced, IsNamed, IsBracketed, IsTape, AreJoined, IsComma, IsCross, AreSeveral, IsSingle, IsListed, IsCrossed, IsLabels, IsArrow, weights_name, SpellsContext}
+use Rattle.vc_context.specs.Spelling.{AreBlanks, Spaced, IsTape, AreJoined, IsComma, AreSeveral, IsLabels, IsArrow, weights_name, SpellsContext}
 use Rattle.vc_context.specs.declared.context.Weights.{Weights}
 use Rattle.vc_context.specs.declared.context.Weights.TheVariants.{B, F2, Z, Q, Nmin}
 use Rattle.vc_context.specs.declared.joined.Style.{Style}
@@ -247,6 +247,14 @@ module _ (listed : AreListed) where
           (omega arith, same, end)
       at_test false test f = absurd (cc)
 
+  -- the pieces of a list
+  abbrev list_pieces : List ℕ → List (List ℕ) → List (List ℕ)
+  list_pieces name inside = name ∷ codes "<" ∷ (inside ++ codes ">" ∷ [])
+
+  are_listed : (name : List ℕ) (inside : List (List ℕ)) (sets : List TapeSet) → (name ≡ codes "lat") ⊎ (name ≡ codes "tupleset")
+      → AreJoined IsComma IsTape inside sets → AreSeveral sets → IsLabels (list_pieces name inside) sets
+  are_listed name inside sets is_name joined few = inr (inl (name, inside, is_name, refl, joined, few))
+
   listed_sound : (name s middle : List ℕ) (sets : List TapeSet) (rest : List ℕ) → (name ≡ codes "lat") ⊎ (name ≡ codes "tupleset")
       → after name s ≡ Some middle → listed_front middle ≡ found (map tape_of sets) rest → Labels sets s rest
   listed_sound name s middle sets rest is_name e f =
@@ -260,7 +268,7 @@ module _ (listed : AreListed) where
       let closing : after (codes ">") tapes.0.1 ≡ Some rest = end.1 ∙ ap Some (ap (λ (p : List Tape × List ℕ). p.1) end.2 ∙ last) in
       let (inside, joined, begins) = joined_sound listed Commas 3 sets start.0 tapes.0.1 are in (
         name ∷ codes "<" ∷ (inside ++ codes ">" ∷ []),
-        inr (inl (name, inside, is_name, refl, joined, (two, few_sets Commas sets start.0 tapes.0.1 are))),
+        are_listed name inside sets is_name joined (two, few_sets Commas sets start.0 tapes.0.1 are),
         begins_both (name ∷ []) (codes "<" ∷ (inside ++ codes ">" ∷ [])) s middle rest (begins_one name s middle e)
             (begins_both (codes "<" ∷ []) (inside ++ codes ">" ∷ []) middle start.0 rest (begins_one (codes "<") middle start.0 start.1)
             (begins_both inside (codes ">" ∷ []) start.0 tapes.0.1 rest begins (begins_one (codes ">") tapes.0.1 rest closing))),

@@ -1,17 +1,16 @@
 -- The canonical text of a context spells it, and no other.
-use Rattle.std.proofs.Common.{◌≡◌, ◌⊎◌, ◌↔◌, ℕ, ◌≤◌, Bool, true, false, ◌&&◌, ◌||◌, not, List, [], ◌∷◌, ◌++◌, length, Option, Some, None, refl, ap, sym, ◌∙◌, subst, append_assoc, append-nil, inl, inr, arith, IsTrue}
+use Rattle.std.proofs.Common.{◌≡◌, ◌⊎◌, ℕ, ◌≤◌, Bool, true, false, ◌||◌, List, [], ◌∷◌, ◌++◌, length, Some, refl, ap, sym, ◌∙◌, subst, append_assoc, append-nil, inl, inr, arith, IsTrue}
 use Rattle.std.proofs.lemmas.Bool.Decides.{nat_tests}
 use Rattle.std.proofs.lemmas.Grind.{common_steps}
-use Rattle.std.specs.Prelude.{codes, map, nat_le, if◌then◌else◌}
-use Rattle.std.specs.List.{flat_map, list_any}
+use Rattle.std.specs.Prelude.{codes, map, if◌then◌else◌}
+use Rattle.std.specs.List.{flat_map}
 use Rattle.vc_context.specs.Canonical.{letter_text, kind_name, tape_text, comma_text, labels_text, context_text}
-use Rattle.vc_context.specs.Reading.{Tape, tape_of, single, context_at}
-use Rattle.vc_context.specs.Spelling.{Range, AreBlanks, SpellsItems, SpellsAlphabet, is_between, is_named, called, named_frames, IsNamed, IsTape, AreJoined, IsComma, IsLabels, weights_name, SpellsContext}
+use Rattle.vc_context.specs.Reading.{Tape, tape_of, single}
+use Rattle.vc_context.specs.Spelling.{SpellsItems, SpellsAlphabet, is_between, is_named, called, named_frames, IsTape, AreJoined, IsComma, IsLabels, weights_name, SpellsContext}
 use Rattle.vc_context.specs.declared.context.Weights.{Weights}
-use Rattle.vc_context.specs.declared.context.Weights.TheVariants.{B, F2, Z, Q, Nmin}
 use Rattle.vc_context.proofs.Alphabets.{AreListed, same_tests, either}
-use Rattle.vc_context.proofs.Fronts.{Begins, both_true, begins_both, begins_spaced}
-use Rattle.vc_context.proofs.Whole.{context_of, context_read}
+use Rattle.vc_context.proofs.Fronts.{Begins, begins_both, begins_spaced}
+use Rattle.vc_context.proofs.Whole.{context_read}
 use Rattle.vc_label.specs.Alphabets.{has_letter, letters_of}
 use Rattle.vc_label.specs.Letters.{is_letter}
 use Rattle.vc_label.specs.declared.alphabet.Alphabet.{Alphabet}

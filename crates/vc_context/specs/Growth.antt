@@ -1,5 +1,5 @@
 -- Texts that grow.
-use Rattle.std.specs.Prelude.{◌≡◌, ℕ, Bool, true, nat_lt, List, ◌++◌}
+use Rattle.std.specs.Prelude.{◌≡◌, ℕ, true, nat_lt, List, ◌++◌}
 use Rattle.std.specs.List.{list_all}
 
 -- each byte is below 128

@@ -1,5 +1,5 @@
 -- Reading as functions on lists: what the reader answers, from left to right, and what stands behind it.
-use Rattle.std.specs.Prelude.{ℕ, zero, suc, Bool, true, false, ◌&&◌, nat_le, ◌==◌, List, [], ◌∷◌, length, drop, filter, Option, Some, None, codes, if◌then◌else◌}
+use Rattle.std.specs.Prelude.{ℕ, zero, suc, Bool, false, ◌&&◌, nat_le, ◌==◌, List, [], ◌∷◌, length, drop, filter, Option, Some, None, codes, if◌then◌else◌}
 use Rattle.std.specs.Option.{option_map, option_map_or}
 use Rattle.std.specs.List.{list_all}
 use Rattle.vc_context.specs.Spelling.{Range, is_named}

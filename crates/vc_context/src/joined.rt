@@ -24,10 +24,6 @@ pub enum Tapes {
     Four(TapeSet, TapeSet, TapeSet, TapeSet),
 }
 
-fn is_blank(byte: u8) -> bool {
-    byte == b' ' || byte == b'\t'
-}
-
 // What stands behind a cross with a blank on each side.
 fn cross(text: &[u8]) -> Option<&[u8]>
     ensures { option_copied result ≡ cross text.now }

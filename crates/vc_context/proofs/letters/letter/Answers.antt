@@ -1,4 +1,3 @@
-use Rattle.std.proofs.Common.{slice_range}
 use Rattle.vc_context.proofs.Items.{spelled_is_letter}
 use Rattle.vc_context.proofs.letters.letter.Goals as goal
 

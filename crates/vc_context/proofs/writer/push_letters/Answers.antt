@@ -1,9 +1,5 @@
-use Rattle.std.proofs.Common.{◌≡◌, ◌++◌, ◌∙◌, string_bytes, sym, subst, ap, refl, arith, List, ℕ}
-use Rattle.std.specs.List.{flat_map}
-use Rattle.vc_context.specs.Canonical.{letter_text}
-use Rattle.vc_context.specs.Growth.{IsLonger}
-use Rattle.vc_context.proofs.Growths.{text_from, from_first, letter_more, letter_other, letters_end, longer_same, longer_twice}
-use Rattle.vc_label.specs.Alphabets.{letters_of}
+use Rattle.std.proofs.Common.{◌∙◌, string_bytes, sym, refl, arith}
+use Rattle.vc_context.proofs.Growths.{from_first, letter_more, letter_other, letters_end, longer_same, longer_twice}
 use Rattle.vc_context.proofs.writer.push_letters.Goals as goal
 use Rattle.vc_context.proofs.writer.push_letters.Goals.{then-has+in_ok-push_letter, else-has}
 
