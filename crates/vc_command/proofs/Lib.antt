@@ -1,0 +1,7 @@
+pub mod Rows
+pub mod Uses
+pub mod WordKinds
+pub mod Turns
+pub mod Loose
+pub mod Walks
+pub mod Parses
