@@ -5,4 +5,4 @@ pub mod Turns
 pub mod Loose
 pub mod Walks
 pub mod Parses
-pub mod Orders
+pub mod Spelled

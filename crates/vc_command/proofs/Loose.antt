@@ -1,11 +1,11 @@
 -- Lines where the value of an option may be a lone dash, as the parser takes it: they have the same requests.
-use Rattle.std.proofs.Common.{◌≡◌, ◌∙◌, ◌<◌, ◌≤◌, ◌+◌, ℕ, Bool, true, false, ◌||◌, refl, sym, ap, subst, arith, List, [], ◌∷◌, length, Option, Some, None, ◌⊎◌, inl, inr, true≢false}
-use Rattle.std.specs.Prelude.{codes, ◌==◌, option_map, option_and_then, if◌then◌else◌}
+use Rattle.std.proofs.Common.{◌≡◌, ◌∙◌, ◌≤◌, Bool, true, false, ◌||◌, refl, sym, ap, subst, arith, List, [], ◌∷◌, length, Option, Some, None, ◌⊎◌, inl, inr}
+use Rattle.std.specs.Prelude.{◌==◌, option_map, option_and_then, if◌then◌else◌}
 use Rattle.std.specs.List.{list_any, before_first}
 use Rattle.std.specs.Str.{bytes_eq}
 use Rattle.std.proofs.lemmas.Slice.Eq.{bytes_eq-Decides}
-use Rattle.vc_command.specs.Lines.{Text, Line, Name, limit, order, Word, plain, option, valued, other, word_of, option_of, is_end, is_dash, is_equals, name_of, with_text, begins_with_dash, line_from, line_of, plain_line, with_plain, with_value, with_word}
-use Rattle.vc_command.specs.Requests.{Asked, command_of, command_request, limit_of, order_of, line_request, words_request, request_of}
+use Rattle.vc_command.specs.Lines.{Text, Line, Name, limit, order, Word, plain, option, valued, other, word_of, is_end, is_equals, name_of, with_text, begins_with_dash, line_from, plain_line, with_plain, with_value, with_word}
+use Rattle.vc_command.specs.Requests.{command_of, command_request, line_request, words_request, request_of}
 use Rattle.vc_command.proofs.Uses.{IsSingle}
 use Rattle.vc_command.specs.declared.command.Command.{Command}
 use Rattle.vc_command.specs.declared.command.Command.TheVariants as command

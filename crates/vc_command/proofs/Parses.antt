@@ -1,13 +1,13 @@
 -- What the parser's clauses say of the line of the words.
-use Rattle.std.proofs.Common.{◌≡◌, ◌∙◌, ◌<◌, ◌≤◌, ◌+◌, ◌^◌, ℕ, Bool, true, false, ◌||◌, refl, sym, ap, ap₂, subst, arith, List, [], ◌∷◌, ◌++◌, map, length, Option, Some, None, ◌⊎◌, inl, inr, string_bytes}
+use Rattle.std.proofs.Common.{◌≡◌, ◌∙◌, ◌≤◌, Bool, true, false, refl, sym, ap, ap₂, subst, arith, List, [], ◌∷◌, map, length, Option, Some, None, inl, inr, string_bytes}
 use Rattle.std.specs.Prelude.{codes, option_map, option_and_then, fold, slice_get, is_some, String}
 use Rattle.std.specs.Option.{option_to_list}
 use Rattle.std.proofs.lemmas.Str.{IsUtf8-string_bytes}
 use Rattle.clap.specs.Lexer.{usize_max}
 use Rattle.clap.specs.Matches.{first_value, matched_of, raw_values}
-use Rattle.clap.specs.Walk.{Held, Row, Rule, Text, Walk, finished, has_row, idle, is_empty, nothing_held, rows_of, settled, walk, walked, with_default}
-use Rattle.clap.specs.Simple.{App, entered, is_simple, matches_of}
-use Rattle.clap.specs.Kinds.{Kinds, or_else, FailsBy, HasKind, IsAmong}
+use Rattle.clap.specs.Walk.{Held, Row, Rule, Text, Walk, finished, has_row, idle, is_empty, rows_of, settled, walked, with_default}
+use Rattle.clap.specs.Simple.{entered, is_simple, matches_of}
+use Rattle.clap.specs.Kinds.{Kinds, or_else, HasKind}
 use Rattle.clap.specs.Faults.{check_fault, default_fault, defaults_fault, entered_fault, fault_of, is_simple_and_free, settle_fault, walk_fault}
 use Rattle.clap.specs.Values.{kind_of}
 use Rattle.clap.specs.declared.error.Error.{Error}
@@ -17,7 +17,7 @@ use Rattle.clap.proofs.WalkLemmas.{first_value-rows, raw_values-rows}
 use Rattle.vc_command.specs.Lines.{Line, plain_line}
 use Rattle.vc_command.specs.Parsers.{app}
 use Rattle.vc_command.specs.Requests.{line_request, request_of}
-use Rattle.vc_command.proofs.Rows.{values_at, listed, first_of-values_at, all_of-values_at}
+use Rattle.vc_command.proofs.Rows.{listed, first_of-values_at, all_of-values_at}
 use Rattle.vc_command.proofs.Uses.{top, rules, built_app, words_id, HasRows, all}
 use Rattle.vc_command.proofs.Loose.{loose_from, request_of-loose, none_of_line, none_of_twice}
 use Rattle.vc_command.proofs.Turns.{at}

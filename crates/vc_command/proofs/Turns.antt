@@ -1,16 +1,15 @@
 -- What the parser makes of one more word.
-use Rattle.std.proofs.Common.{◌≡◌, ◌∙◌, ◌<◌, ◌≤◌, ◌+◌, ℕ, zero, suc, Bool, true, false, refl, sym, ap, subst, arith, List, [], ◌∷◌, ◌++◌, length, Option, Some, None, ◌⊎◌, inl, inr, append_assoc}
+use Rattle.std.proofs.Common.{◌≡◌, ◌∙◌, ◌<◌, ◌≤◌, ℕ, Bool, true, false, refl, sym, ap, subst, arith, List, [], ◌∷◌, ◌++◌, length, Option, Some, None, ◌⊎◌, inl, inr, append_assoc}
 use Rattle.std.specs.Prelude.{codes, slice_get}
 use Rattle.std.specs.Str.{chars}
 use Rattle.clap.specs.Lexer.{usize_max, long_of, short_of}
 use Rattle.clap.specs.Walk.{Held, Row, Text, Waiting, Walk, idle, positional, option, arg_by_long, positional_held, settled_rows, subcommand_met, used, walked}
 use Rattle.clap.specs.Kinds.{Kinds, or_else}
 use Rattle.clap.specs.Faults.{flags_fault, positional_fault, turn_fault}
-use Rattle.clap.specs.declared.error.kind.ErrorKind.TheVariants.{UnknownArgument, InvalidValue}
 use Rattle.vc_command.specs.Lines.{Line, Name, is_end}
 use Rattle.vc_command.specs.Lines as lines
 use Rattle.vc_command.proofs.WordKinds.{IsPlainWord}
-use Rattle.vc_command.proofs.Uses.{top, rules, words_arg, words_id, option_arg, id_of, held, pending_fault, value_fault, Holds, all, words, value, HasRows, IsSingle, more_plain, settles}
+use Rattle.vc_command.proofs.Uses.{top, rules, words_arg, option_arg, id_of, held, pending_fault, value_fault, Holds, all, words, value, IsSingle, more_plain, settles}
 
 -- a walk between two words
 abbrev pub at : List Row → Option (Text × List Text) → Waiting → Bool → Walk
@@ -79,13 +78,16 @@ pub pushes : (rows : List Row) (pending : Option (Text × List Text)) (word : Te
 pushes rows pending word l most (all none h) =
     subst (λ p. Pushes rows p word l) (sym none) (inl (refl, record { rows = _; pending = _; is = refl; holds = words l word [] refl h refl }))
 pushes rows pending word l most (words before v vs is h lines) =
-    subst (λ p. Pushes rows p word l) (sym is) (inl (refl, record {
-      rows = _;
-      pending = _;
-      is = refl;
-      holds = words before v (vs ++ word ∷ []) refl h (ap (more_plain (word ∷ [])) lines
-          ∙ ap (λ xs. record before { plain = xs }) (append_assoc before.plain (v ∷ vs) (word ∷ [])));
-    }))
+    subst (λ p. Pushes rows p word l) (sym is) (inl (
+      refl,
+      record {
+        rows = _;
+        pending = _;
+        is = refl;
+        holds = words before v (vs ++ word ∷ []) refl h (ap (more_plain (word ∷ [])) lines
+            ∙ ap (λ xs. record before { plain = xs }) (append_assoc before.plain (v ∷ vs) (word ∷ [])));
+      },
+    ))
 pushes rows pending word l most (value before name v is h lines) =
     subst (λ p. Pushes rows p word l) (sym is) (pushes_value name v rows word l most (value before name v refl h lines))
 
@@ -154,7 +156,7 @@ trailing_fails rows lines.order waiting word e = cc
 pub option_turns : (b : Bool) (rows : List Row) (pending : Option (Text × List Text)) (name : Name) (word : Text) → is_end word ≡ false
     → long_of word ≡ Some (id_of name, None)
     → Turns (at rows pending (quiet b) false) word (pending_fault rows pending)
-        (at (settled_rows rules pending rows) (Some (id_of name, [])) (option (id_of name)) false)
+    (at (settled_rows rules pending rows) (Some (id_of name, [])) (option (id_of name)) false)
 unfolding walked
 option_turns true rows pending lines.limit word e long = record { fails = rw (e, long) (or_else-none _); goes = rw (e, long) refl }
 option_turns true rows pending lines.order word e long = record { fails = rw (e, long) (or_else-none _); goes = rw (e, long) refl }
@@ -164,7 +166,7 @@ option_turns false rows pending lines.order word e long = record { fails = rw (e
 pub valued_turns : (b : Bool) (rows : List Row) (pending : Option (Text × List Text)) (name : Name) (v : Text) (word : Text) → is_end word ≡ false
     → long_of word ≡ Some (id_of name, Some v)
     → Turns (at rows pending (quiet b) false) word (or_else (pending_fault rows pending) (value_fault name v (settled_rows rules pending rows)))
-        (at (used (option_arg (id_of name)) (v ∷ []) (settled_rows rules pending rows)) None idle false)
+    (at (used (option_arg (id_of name)) (v ∷ []) (settled_rows rules pending rows)) None idle false)
 unfolding walked
 valued_turns true rows pending lines.limit v word e long = record { fails = rw (e, long) (or_else-none _); goes = rw (e, long) refl }
 valued_turns true rows pending lines.order v word e long = record { fails = rw (e, long) (or_else-none _); goes = rw (e, long) refl }

@@ -1,9 +1,9 @@
 -- What one use of an option, or of the plain words, makes of the rows of a parse.
-use Rattle.std.proofs.Common.{◌≡◌, ◌∙◌, ◌<◌, ◌≤◌, ◌+◌, ℕ, Bool, true, false, refl, sym, ap, subst, arith, List, [], ◌∷◌, ◌++◌, length, Option, Some, None, ◌⊎◌, inl, inr, append-nil, append_assoc, length-append}
+use Rattle.std.proofs.Common.{◌≡◌, ◌∙◌, ◌≤◌, ℕ, Bool, true, false, refl, sym, ap, subst, arith, List, [], ◌∷◌, ◌++◌, length, Option, Some, None, ◌⊎◌, inl, inr, length-append}
 use Rattle.std.specs.Prelude.{codes}
 use Rattle.std.proofs.lemmas.Bool.Decides.{nat_tests}
 use Rattle.clap.specs.Lexer.{usize_max}
-use Rattle.clap.specs.Walk.{Held, Row, Rule, Text, has_row, settled, settled_rows, used, with_values}
+use Rattle.clap.specs.Walk.{Held, Row, Rule, Text, has_row, settled_rows, used, with_values}
 use Rattle.clap.specs.Simple.{App, Shape, built, new_rule}
 use Rattle.clap.specs.Kinds.{Kinds, or_else, range_kinds, values_kinds}
 use Rattle.clap.specs.Faults.{settle_fault, use_fault}
@@ -11,8 +11,7 @@ use Rattle.clap.specs.declared.builder.action.ArgAction.TheVariants.{Set, Append
 use Rattle.clap.specs.declared.builder.value_parser.ValueParser.TheVariants as parser
 use Rattle.clap.specs.declared.builder.value_parser.Reading.TheVariants.{AsWritten}
 use Rattle.clap.specs.declared.parser.matches.ValueSource.TheVariants.{CommandLine}
-use Rattle.clap.specs.declared.error.kind.ErrorKind.{ErrorKind}
-use Rattle.vc_command.specs.Lines.{Line, Name, limit, order, with_value, plain_line}
+use Rattle.vc_command.specs.Lines.{Line, Name, limit, order}
 use Rattle.vc_command.specs.Parsers.{app, shape}
 use Rattle.vc_command.proofs.Rows.{values_at, values_at-with_values, has_row-with_values, values_at-with_others, has_row-with_others, without-none}
 

@@ -1,6 +1,6 @@
 -- What a parse of all words comes to: the line of the words, or a fault.
-use Rattle.std.proofs.Common.{◌≡◌, ◌∙◌, ◌<◌, ◌≤◌, ◌+◌, ℕ, Bool, true, false, refl, sym, ap, ap₂, subst, arith, suc, List, [], ◌∷◌, ◌++◌, length, Option, Some, None, ◌⊎◌, inl, inr, append-nil, append_assoc, length-append}
-use Rattle.std.specs.Prelude.{option_map, fold, if◌then◌else◌}
+use Rattle.std.proofs.Common.{◌≡◌, ◌∙◌, ◌≤◌, ◌+◌, Bool, true, false, refl, sym, ap, ap₂, subst, arith, suc, List, [], ◌∷◌, ◌++◌, length, Option, Some, None, inl, inr, append-nil, append_assoc, length-append}
+use Rattle.std.specs.Prelude.{option_map, fold}
 use Rattle.std.specs.Str.{IsUtf8}
 use Rattle.clap.specs.Lexer.{usize_max}
 use Rattle.clap.specs.Walk.{Row, Text, Waiting, Walk, option, positional, idle, settled, settled_rows, used, walked}
@@ -8,10 +8,10 @@ use Rattle.clap.specs.Kinds.{Kinds, or_else}
 use Rattle.clap.specs.Faults.{settle_fault, turn_fault, walk_fault}
 use Rattle.vc_command.specs.Lines.{Line, Name, Word, word_of, is_end, plain_line, with_plain, with_value, with_word}
 use Rattle.vc_command.specs.Lines as lines
-use Rattle.vc_command.proofs.Loose.{loose_from, own_value}
+use Rattle.vc_command.proofs.Loose.{loose_from}
 use Rattle.vc_command.proofs.Uses.{top, rules, option_arg, id_of, pending_fault, value_fault, Holds, all, value, HasRows, IsSingle, Becomes, more_plain, more_value, settles, value_used}
 use Rattle.vc_command.proofs.WordKinds.{Kind, ends, is_plain, is_option, is_valued, is_long, is_short, kind_of_word}
-use Rattle.vc_command.proofs.Turns.{at, quiet, quiet-none, Turns, Goes, GoesOrFails, or_else-none, open_goes, trailing_goes, value_turns, end_turns, end_waits, waits_fails, trailing_fails, option_turns, valued_turns, option_fails, long_fails, short_fails}
+use Rattle.vc_command.proofs.Turns.{at, quiet, quiet-none, Turns, GoesOrFails, open_goes, trailing_goes, value_turns, end_turns, end_waits, waits_fails, trailing_fails, option_turns, valued_turns, option_fails, long_fails, short_fails}
 
 abbrev pub joined : Line → Line → Line
 joined a b = record { plain = a.plain ++ b.plain; limits = a.limits ++ b.limits; orders = a.orders ++ b.orders }
@@ -133,18 +133,18 @@ plain-more_value lines.order v l = refl
 valued_more : (word : Text) (words : List Text) (name : Name) (v : Text) (b : Bool) (rows : List Row) (pending : Option (Text × List Text)) (l : Line)
     → pending_fault rows pending ≡ [] → length l.plain + suc (length words) ≤ usize_max → HasRows (settled_rows rules pending rows) l
     → Turns (at rows pending (quiet b) false) word (or_else (pending_fault rows pending) (value_fault name v (settled_rows rules pending rows)))
-        (at (used (option_arg (id_of name)) (v ∷ []) (settled_rows rules pending rows)) None idle false)
+    (at (used (option_arg (id_of name)) (v ∷ []) (settled_rows rules pending rows)) None idle false)
     → OpenEnds words → Ends l (option_map (with_value name v) (loose_from None words)) (at rows pending (quiet b) false) (word ∷ words)
 valued_more word words name v b rows pending l none most h t open_ends =
     let fault : or_else (pending_fault rows pending) (value_fault name v (settled_rows rules pending rows)) ≡ value_fault name v (settled_rows rules pending rows)
-        = ap (λ k. or_else k (value_fault name v (settled_rows rules pending rows))) none in
+    = ap (λ k. or_else k (value_fault name v (settled_rows rules pending rows))) none in
     let fits : length (more_value name v l).plain + length words ≤ usize_max = omega (arith, plain-more_value name v l) in
     elim (value_used name v (settled_rows rules pending rows) l h) [
       | inl s ↦ next (at rows pending (quiet b) false) word words (at (used (option_arg (id_of name)) (v ∷ []) (settled_rows rules pending rows)) None idle false) l
-      (option_map (with_value name v) (loose_from None words)) (record { fails = t.fails ∙ fault ∙ s.0; goes = t.goes })
-      (ends_value name v l (loose_from None words) _ words (open_ends false _ None (more_value name v l) fits (all refl s.1)))
+          (option_map (with_value name v) (loose_from None words)) (record { fails = t.fails ∙ fault ∙ s.0; goes = t.goes })
+          (ends_value name v l (loose_from None words) _ words (open_ends false _ None (more_value name v l) fits (all refl s.1)))
       | inr bad ↦ ends_value name v l (loose_from None words) (at rows pending (quiet b) false) (word ∷ words)
-      (fails (at rows pending (quiet b) false) word words (more_value name v l) (loose_from None words) (λ none. bad.0 (sym (t.fails ∙ fault) ∙ none)) bad.1)
+          (fails (at rows pending (quiet b) false) word words (more_value name v l) (loose_from None words) (λ none. bad.0 (sym (t.fails ∙ fault) ∙ none)) bad.1)
     ]
 
 open_more : (word : Text) (words : List Text) → Kind word → OpenEnds words → WaitingEnds words → OpenEnds (word ∷ words)
@@ -156,7 +156,7 @@ open_more word words (is_plain p f) open_ends waiting_ends b rows pending l most
     let fits : length l.plain ≤ usize_max = omega arith in
     rw (p.end, f) (elim (open_goes b rows pending word l p fits h) [
       | inl g ↦ next _ word words _ l _ g.turns (ends_plain word l (loose_from None words) _ words
-      (open_ends true g.rows g.pending (more_plain (word ∷ []) l) (omega (arith, most, length-append l.plain (word ∷ []))) g.holds))
+          (open_ends true g.rows g.pending (more_plain (word ∷ []) l) (omega (arith, most, length-append l.plain (word ∷ []))) g.holds))
       | inr bad ↦ fails _ word words l _ bad.0 bad.1
     ])
 open_more word words (is_option name e long f) open_ends waiting_ends b rows pending l most h =

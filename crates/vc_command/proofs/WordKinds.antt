@@ -1,5 +1,5 @@
 -- What a word in front of `--` is, for the rule and for the parser.
-use Rattle.std.proofs.Common.{◌≡◌, ◌≢◌, ◌∙◌, ◌<◌, ◌≤◌, ◌+◌, ℕ, Bool, true, false, refl, sym, ap, subst, arith, List, [], ◌∷◌, length, take, drop, Option, Some, None, ◌⊎◌, inl, inr, get_or}
+use Rattle.std.proofs.Common.{◌≡◌, ◌∙◌, ◌<◌, ℕ, Bool, true, false, refl, sym, ap, arith, List, [], ◌∷◌, length, Option, Some, None}
 use Rattle.std.specs.Prelude.{codes, ◌==◌, slice_get, if◌then◌else◌}
 use Rattle.std.specs.List.{list_any, before_first, after_first}
 use Rattle.std.specs.Str.{bytes_eq, chars, IsUtf8}
@@ -8,7 +8,7 @@ use Rattle.std.proofs.lemmas.Slice.Eq.{bytes_eq-Decides}
 use Rattle.std.proofs.lemmas.Str.{IsUtf8-drop, IsCharBoundary-after_ascii, chars_from_encodes}
 use Rattle.clap.specs.Lexer.{long_of, short_of}
 use Rattle.clap.specs.Walk.{Text, arg_by_long}
-use Rattle.vc_command.specs.Lines.{Name, limit, order, Word, plain, option, valued, other, word_of, option_of, with_text, name_of, is_equals, is_end, is_dash}
+use Rattle.vc_command.specs.Lines.{Name, limit, order, plain, option, valued, other, word_of, option_of, name_of, is_equals, is_end}
 use Rattle.vc_command.proofs.Uses.{id_of, rules}
 
 -- the word is no option and not `--`

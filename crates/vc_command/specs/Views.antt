@@ -1,6 +1,5 @@
 -- What the code answers, by the bytes of its texts.
-use Rattle.std.specs.Prelude.{ℕ, List, Option, Some, None, option_map, map, string_bytes}
-use Rattle.std.specs.Global.{Vec, Global}
+use Rattle.std.specs.Prelude.{List, Option, option_map, map, string_bytes}
 use Rattle.std.specs.Borrow.{Bor}
 use Rattle.std.specs.Option.{option_to_list}
 use Rattle.vc_command.specs.Lines.{Text}

@@ -2,10 +2,12 @@
 #![tactic(auto)]
 
 mod command;
+mod law;
 mod line;
 mod number;
 mod request;
 
+pub use law::lines_are_spelled;
 pub use request::{Request, RequestFault, request_of};
 
 #[cfg(test)]

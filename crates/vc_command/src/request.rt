@@ -4,7 +4,6 @@ ghost use Rattle.vc_command.specs.Views.{asked};
 
 use crate::line::Line;
 use std::alloc::{AllocError, Global};
-use thiserror::Error;
 
 /// What words ask for. A text is the word that gave it, as it was written.
 #[derive(Debug, Drop, PartialEq, Eq)]
@@ -96,13 +95,11 @@ pub enum Request {
 }
 
 /// Why words gave no request.
-#[derive(Clone, Copy, Debug, PartialEq, Eq, Error)]
+#[derive(Clone, Copy, Debug, PartialEq, Eq)]
 pub enum RequestFault {
     /// There is no request of these words.
-    #[error("usage")]
     Usage,
     /// There was no memory.
-    #[error("memory")]
     Memory(AllocError),
 }
 

@@ -1,10 +1,10 @@
 -- What the parser is told, argument by argument.
-use Rattle.std.proofs.Common.{◌≡◌, ◌∙◌, rules, ap, ap₂, codes, [], refl, subst, Option, Some, None, true}
+use Rattle.std.proofs.Common.{◌≡◌, ◌∙◌, rules, ap, ap₂, codes, [], Option, Some, None}
 use Rattle.std.specs.Prelude.{IsSomeAnd}
 use Rattle.std.proofs.lemmas.Result.{IfOk-weaker}
 use Rattle.clap.specs.Lexer.{usize_max}
 use Rattle.clap.specs.Walk.{Rule, rule_of}
-use Rattle.clap.specs.Simple.{App, app_of, new_rule, with_rule}
+use Rattle.clap.specs.Simple.{app_of, new_rule, with_rule}
 use Rattle.clap.specs.declared.builder.arg.Arg.{Arg}
 use Rattle.clap.specs.declared.builder.range.ValueRange.{ValueRange}
 use Rattle.clap.specs.declared.builder.action.ArgAction.TheVariants.{Append}

@@ -1,5 +1,5 @@
 -- What the parser answers is the line of the words.
-use Rattle.std.proofs.Common.{◌≡◌, ◌∙◌, ◌≤◌, ◌<◌, ◌^◌, refl, sym, ap, ap₂, subst, arith, rules, map, length, Option, Some, None, List, [], codes, string_bytes}
+use Rattle.std.proofs.Common.{◌≡◌, ◌∙◌, ◌≤◌, ◌<◌, ◌^◌, sym, ap, ap₂, subst, arith, rules, map, length, List, [], string_bytes}
 use Rattle.std.specs.Prelude.{option_map, option_and_then}
 use Rattle.std.proofs.lemmas.List.{length-map}
 use Rattle.clap.specs.Lexer.{usize_max}
@@ -13,7 +13,7 @@ use Rattle.vc_command.specs.Requests.{line_request}
 use Rattle.vc_command.proofs.Uses.{HasRows}
 use Rattle.vc_command.proofs.Rows.{listed}
 use Rattle.vc_command.proofs.Loose.{request_of-loose}
-use Rattle.vc_command.proofs.Parses.{ReadsLine, app_is_free, app_is_simple, has_fault, limits_are, no_request, orders_are, plain_is, reads_line, strings_are_texts}
+use Rattle.vc_command.proofs.Parses.{app_is_free, app_is_simple, has_fault, limits_are, no_request, orders_are, plain_is, reads_line, strings_are_texts}
 use Rattle.vc_command.proofs.line.Line.read.Goals.{in-Some+in_ok-plain-in-Some, in-None}
 use Rattle.vc_command.proofs.line.Line.read.Goals as goal
 
