@@ -55,7 +55,9 @@ fn fault(error: &clap::Error) -> RequestFault
 }
 
 impl<'w> Line<'w> {
-    /// The line of words, or `Usage` where they have none.
+    /// A line that has the request of the words, or `Usage`, where they have none.
+    ///
+    /// It is their line, but where `clap` takes a lone dash as the value of an option: that is no number.
     pub(crate) fn read(alloc: Global, words: &'w [String]) -> Result<Line<'w>, RequestFault>
         ensures ok { IfOk result (λ l. request_of (map string_bytes words.entry.now) ≡ line_request (line l)) }
         ensures usage { IsErrOf result RequestFault.Usage → request_of (map string_bytes words.entry.now) ≡ None }
