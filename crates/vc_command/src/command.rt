@@ -8,7 +8,7 @@ use crate::request::Request;
 use std::alloc::{AllocError, Global};
 
 /// The commands that name no option.
-#[derive(Clone, Copy, Debug, PartialEq, Eq)]
+#[derive(Clone, Copy)]
 pub(crate) enum Fixed {
     Context,
     Expr,
@@ -22,7 +22,7 @@ pub(crate) enum Fixed {
 }
 
 /// The commands that name `--limit`.
-#[derive(Clone, Copy, Debug, PartialEq, Eq)]
+#[derive(Clone, Copy)]
 pub(crate) enum Limited {
     Standard,
     Derived,
@@ -33,7 +33,7 @@ pub(crate) enum Limited {
 }
 
 /// The commands, by the option that they name; `to-expression` names `--order`.
-#[derive(Clone, Copy, Debug, PartialEq, Eq)]
+#[derive(Clone, Copy)]
 pub(crate) enum Command {
     Fixed(Fixed),
     Limited(Limited),
