@@ -7,8 +7,8 @@ use Rattle.std.proofs.lemmas.List.{append_assoc, append-nil, take-append-drop}
 use Rattle.std.proofs.Math.Seq.{take-append_seam}
 use lib.Pointwise.{bytes_decides}
 use Rattle.vc_model.specs.Lists.{In}
-use Rattle.vc_first.specs.declared.weights.Weights.{Weights}
-use Rattle.vc_first.specs.declared.weights.Weights.TheVariants.{B, F2, Z, Q, Nmin}
+use Rattle.vc_context.specs.declared.context.Weights.{Weights}
+use Rattle.vc_context.specs.declared.context.Weights.TheVariants.{B, F2, Z, Q, Nmin}
 use Rattle.vc_first.specs.Grammar.{is_plain, Line, line_text, IsLine, AreLines, Head, HasHead, head_end, head_text, lines_of, word_text, SpellsWord}
 use Rattle.vc_first.specs.Items.{Item, items_by, items_of}
 use Rattle.vc_first.specs.Reading.{all_plain, word_at, line_at, line_items, more_items, items_at, plain_length, weights_at, head_front, with_weights, alphabet_at, head_of, head_at}

@@ -1,7 +1,7 @@
 -- The first form of automaton files and of word texts: what is spelled, as a text of each value.
 use Rattle.std.specs.Prelude.{◌≡◌, ◌≢◌, ◌+◌, ◌<◌, ℕ, List, [], ◌∷◌, ◌++◌, map, codes, Bool, true, false, ◌||◌, ◌&&◌, nat_le, if◌then◌else◌, ◌==◌, Option, None, Some, ⊤}
-use Rattle.vc_first.specs.declared.weights.Weights.{Weights}
-use Rattle.vc_first.specs.declared.weights.Weights.TheVariants.{B, F2, Z, Q, Nmin}
+use Rattle.vc_context.specs.declared.context.Weights.{Weights}
+use Rattle.vc_context.specs.declared.context.Weights.TheVariants.{B, F2, Z, Q, Nmin}
 use Rattle.vc_model.specs.Lists.{In}
 
 -- a letter of the English alphabet, a digit, or `_`

@@ -3,8 +3,8 @@ use Rattle.std.specs.Prelude.{ℕ, zero, suc, ◌+◌, ◌-◌, List, [], ◌∷
 use Rattle.std.specs.Str.{bytes_eq}
 use Rattle.vc_first.specs.Grammar.{Line, initial_at, final_at, moves, Entry, Head, lines_of, is_plain, is_angle, head_end}
 use Rattle.vc_first.specs.Items.{Item, items_by}
-use Rattle.vc_first.specs.declared.weights.Weights.{Weights}
-use Rattle.vc_first.specs.declared.weights.Weights.TheVariants.{B, F2, Z, Q, Nmin}
+use Rattle.vc_context.specs.declared.context.Weights.{Weights}
+use Rattle.vc_context.specs.declared.context.Weights.TheVariants.{B, F2, Z, Q, Nmin}
 
 -- how many bytes the first line has
 abbrev pub line_length : List ℕ → ℕ

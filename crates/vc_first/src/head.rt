@@ -3,7 +3,7 @@ ghost use Rattle.vc_first.specs.Grammar.{is_plain, lines_of};
 ghost use Rattle.vc_first.specs.Reading.{alphabet_at, head_at, line_length, plain_length, weights_at};
 ghost use Rattle.vc_first.specs.Views.{head_answer, IsHead};
 
-use crate::weights::Weights;
+use vc_context::Weights;
 
 /// What the first line of a file names: the letters and the weight set. `body` are the bytes behind
 /// that line.

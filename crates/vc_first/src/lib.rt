@@ -10,7 +10,6 @@ mod item;
 mod law;
 mod lines;
 mod states;
-mod weights;
 mod word;
 
 pub use alphabet::{are_over, is_over};
@@ -20,5 +19,4 @@ pub use head::{Head, read_head};
 pub use item::Item;
 pub use law::{items_have_one_automaton, texts_spell_one_thing};
 pub use lines::read_items;
-pub use weights::Weights;
 pub use word::read_word;

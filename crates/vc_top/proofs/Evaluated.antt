@@ -12,8 +12,8 @@ use Rattle.vc_first.specs.Items.{Item, AreOver, items_of}
 use Rattle.vc_first.specs.Reading.{is_spelled}
 use Rattle.vc_first.specs.declared.faults.ItemsFault.{ItemsFault}
 use Rattle.vc_first.specs.declared.faults.ItemsFault.TheVariants.{Number, Sum, Memory}
-use Rattle.vc_first.specs.declared.weights.Weights.{Weights}
-use Rattle.vc_first.specs.declared.weights.Weights.TheVariants.{B, F2, Z, Q, Nmin}
+use Rattle.vc_context.specs.declared.context.Weights.{Weights}
+use Rattle.vc_context.specs.declared.context.Weights.TheVariants.{B, F2, Z, Q, Nmin}
 use Rattle.vc_model.specs.Automata.{Automaton, coefficient}
 use Rattle.vc_model.specs.Lists.{In}
 use Rattle.vc_model.specs.WeightSet.{WeightSet}
@@ -69,7 +69,7 @@ module _ {V : Type 0} (T : WeightTexts V) where
     not_false : IsTrue false → ⊥
     not_false h = cc h
 
-    pub foreign_word : (A : Automaton V) (text w : List ℕ) (r : Bool) → SpellsWord text w → IsTrue r ↔ ((x : ℕ) → In x w → In x alphabet) → r ≡ false → OrMemory (AnswersText T alphabet A text) (Err status.Syntax)
+    pub foreign_word : (A : Automaton V) (text w : List ℕ) (r : Bool) → SpellsWord text w → IsTrue r ↔ ((x : ℕ) → In x w → In x alphabet) → r ≡ false → OrMemory (AnswersText T alphabet A text) (Err status.NotALabel)
     foreign_word A text w r s h e = inr (inr (w, s, inl (λ o. not_false (subst IsTrue e (h.1 o)), refl)))
 
     pub word_over : (A : Automaton V) (text w : List ℕ) (r : Bool) (a : Answer) → SpellsWord text w → IsTrue r ↔ ((x : ℕ) → In x w → In x alphabet) → r ≡ true → OrMemory (AnswersWord T A w) a → OrMemory (AnswersText T alphabet A text) a
@@ -89,7 +89,7 @@ module _ {V : Type 0} (T : WeightTexts V) where
         none s (inr u) = s.sums u
 
   -- the lines have a letter outside the alphabet
-  pub foreign_lines : (head : Head) (lines : List Line) (text : List ℕ) (r : Bool) → AreLines (is_spelled T.spelled) head.texts lines → IsTrue r ↔ AreOver head.alphabet (items_of lines) → r ≡ false → OrMemory (AnswersLines T head text) (Err status.Syntax)
+  pub foreign_lines : (head : Head) (lines : List Line) (text : List ℕ) (r : Bool) → AreLines (is_spelled T.spelled) head.texts lines → IsTrue r ↔ AreOver head.alphabet (items_of lines) → r ≡ false → OrMemory (AnswersLines T head text) (Err status.NotALabel)
   foreign_lines head lines text r l h e = inr (inr (lines, l, inl (λ o. not_false (subst IsTrue e (h.1 o)), refl)))
     where
       not_false : IsTrue false → ⊥
@@ -106,6 +106,7 @@ arm file text h w a k e p = wider (λ a. InSet w (λ V T. AnswersLines T h text 
 abbrev IsKept : Answer → Type 0
 IsKept (Ok text) = Unit {0}
 IsKept (Err status.Syntax) = Unit {0}
+IsKept (Err status.NotALabel) = Unit {0}
 IsKept (Err status.Overflow) = Unit {0}
 IsKept (Err other) = ⊥
 
@@ -119,8 +120,8 @@ one_kept I s a P k (inr p) f = f p.0 p.2
 
 lines_kept : {V : Type 0} (T : WeightTexts V) (h : Head) (text : Bytes) (a : Answer) → AnswersLines T h text a → IsKept a
 lines_kept T h text a p =
-    one_kept _ status.Syntax a _ tt p (λ ls q. unless_kept _ status.Syntax a _ tt q (λ r. unless_kept _ status.Overflow a _ tt r (λ s.
-    one_kept _ status.Syntax a _ tt s.2 (λ w t. unless_kept _ status.Syntax a _ tt t (λ u. unless_kept _ status.Overflow a _ tt u (λ e. subst IsKept (sym e) tt))))))
+    one_kept _ status.Syntax a _ tt p (λ ls q. unless_kept _ status.NotALabel a _ tt q (λ r. unless_kept _ status.Overflow a _ tt r (λ s.
+    one_kept _ status.Syntax a _ tt s.2 (λ w t. unless_kept _ status.NotALabel a _ tt t (λ u. unless_kept _ status.Overflow a _ tt u (λ e. subst IsKept (sym e) tt))))))
 
 set_kept : (w : Weights) (h : Head) (text : Bytes) (a : Answer) → InSet w (λ V T. AnswersLines T h text a) → IsKept a
 set_kept B h text a p = lines_kept truth_weights h text a p
@@ -152,7 +153,7 @@ allowed seen file word bytes t h (Err status.Usage) (inr p) = absurd (kept bytes
 allowed seen file word bytes t h (Err status.WriteFault) (inl m) = absurd (cc m)
 allowed seen file word bytes t h (Err status.WriteFault) (inr p) = absurd (kept bytes word (Err status.WriteFault) p)
 allowed seen file word bytes t h (Err status.NotALabel) (inl m) = absurd (cc m)
-allowed seen file word bytes t h (Err status.NotALabel) (inr p) = absurd (kept bytes word (Err status.NotALabel) p)
+allowed seen file word bytes t h (Err status.NotALabel) (inr p) = (bytes, t, (h, p))
 allowed seen file word bytes t h (Err status.InvalidStar) (inl m) = absurd (cc m)
 allowed seen file word bytes t h (Err status.InvalidStar) (inr p) = absurd (kept bytes word (Err status.InvalidStar) p)
 allowed seen file word bytes t h (Err status.EmptyCircuit) (inl m) = absurd (cc m)

@@ -31,11 +31,11 @@ module _ {V : Type 0} (T : WeightTexts V) where
       Unless (HasUnfitStep T.set (forward_steps T.set automaton (word ∷ []))) status.Overflow answer
       (answer ≡ Ok (coefficient_line automaton word))
 
-  -- `Syntax` where the text spells no word, or one with a letter outside the alphabet
+  -- `Syntax` where the text spells no word, `NotALabel` where the word has a letter outside the alphabet
   abbrev pub AnswersText : List ℕ → Automaton V → Bytes → Answer → Type 0
   AnswersText alphabet automaton text answer =
       WithOne (SpellsWord text) status.Syntax answer (λ word.
-      Unless (¬ ((x : ℕ) → In x word → In x alphabet)) status.Syntax answer (AnswersWord automaton word answer))
+      Unless (¬ ((x : ℕ) → In x word → In x alphabet)) status.NotALabel answer (AnswersWord automaton word answer))
 
   -- `Overflow` where a number of the file is past its range or an addition of its weights does not fit
   abbrev pub AnswersItems : List ℕ → List Item → Bytes → Answer → Type 0
@@ -43,11 +43,11 @@ module _ {V : Type 0} (T : WeightTexts V) where
       Unless (HasUnfitNumber T.numbers_fit items ⊎ HasUnfitSum T.set T.spelled items) status.Overflow answer
       ((automaton : Automaton V) × IsAutomatonOf T.set T.spelled items automaton × AnswersText alphabet automaton text answer)
 
-  -- `Syntax` where the texts behind the first line are no lines, or have a letter outside the alphabet
+  -- `Syntax` where the texts behind the first line are no lines, `NotALabel` where a letter is outside the alphabet
   abbrev pub AnswersLines : Head → Bytes → Answer → Type 0
   AnswersLines head text answer =
       WithOne (AreLines (is_spelled T.spelled) head.texts) status.Syntax answer (λ lines.
-      Unless (¬ AreOver head.alphabet (items_of lines)) status.Syntax answer (AnswersItems head.alphabet (items_of lines) text answer))
+      Unless (¬ AreOver head.alphabet (items_of lines)) status.NotALabel answer (AnswersItems head.alphabet (items_of lines) text answer))
 
 -- `Syntax` where the file has no first line that names an alphabet and a weight set
 abbrev pub Evaluates : Bytes → Bytes → Answer → Type 0

@@ -6,8 +6,8 @@ use Rattle.vc_basic.specs.Tropical.{tropical, spelled_tropical, tropical_fits, t
 use Rattle.vc_basic.specs.Truths.{truths, spelled_bit, bit_text}
 use Rattle.vc_basic.specs.Wholes.{wholes, spelled_whole, whole_fits}
 use Rattle.vc_basic.specs.declared.tropical.NminValue.{NminValue}
-use Rattle.vc_first.specs.declared.weights.Weights.{Weights}
-use Rattle.vc_first.specs.declared.weights.Weights.TheVariants.{B, F2, Z, Q, Nmin}
+use Rattle.vc_context.specs.declared.context.Weights.{Weights}
+use Rattle.vc_context.specs.declared.context.Weights.TheVariants.{B, F2, Z, Q, Nmin}
 use Rattle.vc_model.specs.WeightSet.{WeightSet}
 use Rattle.vc_rat.specs.Rationals.{rationals}
 use Rattle.vc_rat.specs.Texts.{spelled_fraction, fraction_fits, fraction_text}

@@ -101,7 +101,7 @@ fn words_are_evaluated(rt: HostRuntime) -> Result<(), Fail> {
         ("contains_ab", "aab", 0u8, "1\n"),
         ("contains_ab", "ba", 0, "0\n"),
         ("contains_ab", "\\e", 0, "0\n"),
-        ("contains_ab", "ac", 5, ""),
+        ("contains_ab", "ac", 6, ""),
         ("contains_ab", "a||", 5, ""),
         ("contains_ab", "", 5, ""),
         ("gaps", "a", 0, "1\n"),
@@ -133,7 +133,7 @@ fn words_are_evaluated(rt: HostRuntime) -> Result<(), Fail> {
         ("weight_of_z", "a", 5, ""),
         ("open_weight", "a", 5, ""),
         ("blank_in_entry", "a", 5, ""),
-        ("foreign_letter", "a", 5, ""),
+        ("foreign_letter", "%", 6, ""),
         ("blank_line", "a", 5, ""),
         ("empty", "a", 5, ""),
         ("not_held", "a", 3, ""),
@@ -165,6 +165,27 @@ fn other_words_and_faults_are_refused(rt: HostRuntime) -> Result<(), Fail> {
     let (status, out) = answer(alloc, &["eval", "contains_ab", "ab"], &mut files, 1)?;
     assert_eq!(rt; status, Status::WriteFault);
     assert_eq!(rt; out.written(), "1".as_bytes());
+    Ok(())
+}
+
+#[test]
+fn contexts_are_printed(rt: HostRuntime) -> Result<(), Fail> {
+    let alloc = rt.alloc();
+    let mut files = held(alloc, Vec::new(alloc))?;
+    for (text, code, printed) in [
+        (
+            "[ab]? x [x-z]* -> nmin",
+            0u8,
+            "lat<lan_char(ab), law_char(xyz)>, nmin\n",
+        ),
+        ("letterset<char_letters(ba)>, q", 0, "lal_char(ab), q\n"),
+        ("lal_char(ab)", 5, ""),
+        ("-lal_char(ab), b", 2, ""),
+    ] {
+        let (status, out) = answer(alloc, &["context", text], &mut files, 64)?;
+        assert_eq!(rt; status.code(), code, "{text}");
+        assert_eq!(rt; out.written(), printed.as_bytes(), "{text}");
+    }
     Ok(())
 }
 

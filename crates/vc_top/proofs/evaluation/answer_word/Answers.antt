@@ -1,7 +1,7 @@
 use Rattle.std.proofs.Common.{[], ◌∷◌}
 use Rattle.vc_label.specs.Borrowed.{word_of}
 use Rattle.vc_top.proofs.Evaluated.{value_at, word_answered}
-use Rattle.vc_top.proofs.answer.answer_word.Goals as goal
+use Rattle.vc_top.proofs.evaluation.answer_word.Goals as goal
 
 pub returns-in-Ok-eval : goal.returns-in-Ok-eval
 returns-in-Ok-eval g c =

@@ -1,7 +1,7 @@
 use Rattle.vc_top.proofs.Evaluated.{foreign_word, word_over}
 use Rattle.vc_top.proofs.Inputs.{plain_letters}
 use Rattle.vc_top.specs.Views.{answer_of}
-use Rattle.vc_top.proofs.answer.answer_text.Goals as goal
+use Rattle.vc_top.proofs.evaluation.answer_text.Goals as goal
 
 pub answer_word-requires-clause-letters : goal.answer_word-requires-clause-letters
 answer_word-requires-clause-letters g c = plain_letters c.in-Some.word.now c.in-Some.ensures.plain

@@ -16,10 +16,11 @@ use std::alloc::Global;
 use vc_atoms::Letters;
 use vc_aut::Automaton;
 use vc_basic::{B, F2, Nmin, Z};
+use vc_context::Weights;
 use vc_eval::{Evaluator, letters_are_labels};
 use vc_first::{
-    Head, Item, ItemsFault, Weights, are_over, automaton_of, is_over, read_head, read_items,
-    read_word, texts_spell_one_thing,
+    Head, Item, ItemsFault, are_over, automaton_of, is_over, read_head, read_items, read_word,
+    texts_spell_one_thing,
 };
 use vc_label::Word;
 use vc_rat::Q;
@@ -82,7 +83,7 @@ fn answer_text<S: Semiring>(
     if is_over(alphabet, word) {
         answer_word(alloc, automaton, word)
     } else {
-        Err(Status::Syntax)
+        Err(Status::NotALabel)
     }
 }
 
@@ -121,7 +122,7 @@ fn answer_lines<S: Semiring>(alloc: Global, head: Head<'_>, text: &[u8]) -> Resu
     if are_over(head.alphabet, items) {
         answer_items::<S>(alloc, head.alphabet, items, text)
     } else {
-        Err(Status::Syntax)
+        Err(Status::NotALabel)
     }
 }
 

@@ -2,7 +2,7 @@ use Rattle.std.proofs.Common.{map}
 use Rattle.vc_first.specs.View.{view}
 use Rattle.vc_top.specs.Views.{answer_of}
 use Rattle.vc_top.proofs.Evaluated.{items_answered}
-use Rattle.vc_top.proofs.answer.answer_items.Goals as goal
+use Rattle.vc_top.proofs.evaluation.answer_items.Goals as goal
 
 pub returns-in-Ok : goal.returns-in-Ok
 returns-in-Ok g c =

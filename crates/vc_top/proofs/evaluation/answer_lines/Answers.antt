@@ -9,7 +9,7 @@ use Rattle.vc_top.specs.Evaluations.{AnswersItems}
 use Rattle.vc_top.specs.Refusals.{OrMemory}
 use Rattle.vc_top.specs.Views.{answer_of}
 use Rattle.vc_top.proofs.Evaluated.{foreign_lines, lines_answered}
-use Rattle.vc_top.proofs.answer.answer_lines.Goals as goal
+use Rattle.vc_top.proofs.evaluation.answer_lines.Goals as goal
 
 pub answer_items-requires-clause-spelled : goal.answer_items-requires-clause-spelled
 answer_items-requires-clause-spelled g c =
