@@ -1,0 +1,17 @@
+pub mod Cuts
+pub mod Returns
+pub mod Scanned
+pub mod Entries
+pub mod Ranges
+pub mod Parts
+pub mod Digits
+pub mod Found
+pub mod Judged
+pub mod Checked
+pub mod Lettered
+pub mod Gained
+pub mod Weighed
+pub mod Summed
+pub mod Ordered
+pub mod Stated
+pub mod Answered

@@ -1,0 +1,17 @@
+use Rattle.std.proofs.Common.{◌∙◌, ap, arith}
+use Rattle.std.proofs.lemmas.List.{length-map}
+use Rattle.vc_daut.proofs.Stated.{states_sets, states_count}
+use Rattle.vc_daut.proofs.read.build.Goals as goal
+
+pub add_lines-requires-clause-sets : goal.add_lines-requires-clause-sets
+add_lines-requires-clause-sets g c =
+    ap (λ d. d.sets) c.in_default.ensures.ok ∙ states_sets g.S.Semiring.set c.len.result c.new-builder.result ∙ ap (λ d. d.sets) c.new-builder.ensures
+
+pub add_lines-requires-clause-states : goal.add_lines-requires-clause-states
+add_lines-requires-clause-states g c =
+    let e = ap (λ d. d.automaton.states) c.in_default.ensures.ok in
+    let s = states_count g.S.Semiring.set c.len.result c.new-builder.result in
+    let z = ap (λ d. d.automaton.states) c.new-builder.ensures in
+    let l = c.len.ensures.len in
+    let m = length-map c.args.names.now.keys (λ b. b.now) in
+    omega (arith, e, s, z, l, m)

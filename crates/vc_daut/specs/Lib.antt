@@ -1,0 +1,15 @@
+pub mod Pieces
+pub mod Lines
+pub mod Marks
+pub mod Grammar
+pub mod Labels
+pub mod Names
+pub mod Meaning
+pub mod Views
+pub mod Classes
+pub mod Spelling
+pub mod Passes
+pub mod Heads
+pub mod Answers
+pub mod Keys
+pub mod Building

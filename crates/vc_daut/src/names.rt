@@ -1,0 +1,119 @@
+ghost use Rattle.std.specs.Prelude.{◌≡◌, ◌<◌, true, All, IfOk, OnOk, length, map};
+ghost use Rattle.vc_model.specs.Lists.{NoRepeat};
+ghost use Rattle.std.specs.List.{list_all};
+ghost use Rattle.vc_daut.specs.Names.{is_digit, has_no_zero_in_front, is_number, value_of, line_names, with_name, with_names, AreInOrder};
+ghost use Rattle.vc_daut.specs.Keys.{IsKeyOf, IsKeyed};
+ghost use Rattle.vc_daut.specs.Views.{line_seen, names_seen};
+
+use crate::label::unescape;
+use crate::line::{Line, name_of};
+use indexmap::IndexSet;
+use std::alloc::{AllocError, Global};
+
+/// The names of states, each once; a name is written as it stands in double quotes.
+pub(crate) type Names<'t> = IndexSet<&'t [u8]>;
+
+/// What a name is ordered by: the value of a number, or a number above all of these and the bytes of the name; and the
+/// name.
+pub type Keyed<'t> = (u64, Vec<u8>, &'t [u8]);
+
+/// A number of 1 to 18 digits is below it.
+const NO_NUMBER: u64 = 1_000_000_000_000_000_000;
+
+fn are_digits(name: &[u8]) -> bool
+    ensures { result ≡ list_all is_digit name.now }
+{
+    name.iter().all(|byte| b'0' <= *byte && *byte <= b'9')
+}
+
+/// Whether no digit 0 stands in front of other digits.
+fn has_no_zero_in_front(name: &[u8]) -> bool
+    ensures { result ≡ has_no_zero_in_front name.now }
+{
+    match name {
+        [first, _, ..] => *first != b'0',
+        _ => true,
+    }
+}
+
+fn is_number(name: &[u8]) -> bool
+    ensures { result ≡ is_number name.now }
+{
+    1 <= name.len() && name.len() <= 18 && are_digits(name) && has_no_zero_in_front(name)
+}
+
+fn value_of(name: &[u8]) -> u64
+    requires { is_number name.now ≡ true }
+    ensures value { result ≡ value_of name.now }
+    ensures below { result < 1000000000000000000 }
+{
+    let mut value = 0;
+    for digit in name {
+        value = value * 10 + (*digit - b'0') as u64;
+    }
+    value
+}
+
+fn key_of(alloc: Global, name: &[u8]) -> Result<(u64, Vec<u8>), AllocError>
+    ensures { IfOk result (λ k. IsKeyOf k.0 k.1 name.now) }
+{
+    let mut text = Vec::new(alloc);
+    if is_number(name) {
+        return Ok((value_of(name), text));
+    }
+    unescape(name, &mut text)?;
+    Ok((NO_NUMBER, text))
+}
+
+/// Adds the names of the states of a line.
+pub(crate) fn add_names<'t>(names: &mut Names<'t>, line: &Line<'_, 't>) -> Result<(), AllocError>
+    ensures { OnOk result (names_seen names.new ≡ with_names (names_seen names.old) (line_names (line_seen line.now))) }
+{
+    match line {
+        Line::Blank => Ok(()),
+        Line::Initial(state, _) => add_name(names, name_of(*state)),
+        Line::Final(state, _) => add_name(names, name_of(*state)),
+        Line::State(state) => add_name(names, name_of(*state)),
+        Line::Moves(from, to, _) => {
+            add_name(names, name_of(*from))?;
+            add_name(names, name_of(*to))
+        }
+    }
+}
+
+fn add_name<'t>(names: &mut Names<'t>, name: &'t [u8]) -> Result<(), AllocError>
+    ensures { OnOk result (names_seen names.new ≡ with_name (names_seen names.old) name.now) }
+{
+    match names.insert(name) {
+        Ok(_) => Ok(()),
+        Err(_) => Err(AllocError),
+    }
+}
+
+/// Each name with its key.
+fn keyed<'t>(alloc: Global, found: &[&'t [u8]]) -> Result<Vec<Keyed<'t>>, AllocError>
+    ensures names { IfOk result (λ v. map (λ p. p.2.now) v.items ≡ map (λ b. b.now) found.now) }
+    ensures keys { IfOk result (λ v. All IsKeyed v.items) }
+{
+    let mut keyed = Vec::new(alloc);
+    for name in found {
+        let (rank, text) = key_of(alloc, name)?;
+        keyed.push((rank, text, *name))?;
+    }
+    Ok(keyed)
+}
+
+/// The names in their order: the number of a state is the place of its name.
+pub(crate) fn in_order<'t>(alloc: Global, found: &Names<'t>) -> Result<Names<'t>, AllocError>
+    requires { NoRepeat (names_seen found.now) }
+    ensures order { IfOk result (λ names. AreInOrder (names_seen found.now) (names_seen names)) }
+    ensures count { IfOk result (λ names. length (names_seen names) ≡ length (names_seen found.now)) }
+{
+    let mut keyed = keyed(alloc, found.as_slice())?;
+    keyed.sort()?;
+    let mut names = IndexSet::new(alloc);
+    for entry in &keyed {
+        add_name(&mut names, entry.2)?;
+    }
+    Ok(names)
+}

@@ -1,0 +1,182 @@
+ghost use Rattle.std.specs.Prelude.{◌≡◌, ◌+◌, ◌<◌, ◌≤◌, ◌^◌, ℕ, List, length, IfErr, OnOk, Some, None, Err};
+ghost use Rattle.vc_daut.specs.declared.fault.DautFault.TheVariants.{Syntax};
+ghost use Rattle.std.specs.List.{flat_map};
+ghost use Rattle.vc_daut.specs.Building.{IsAdded, KeepsShape, line_weights};
+ghost use Rattle.vc_daut.specs.Answers.{IsBuiltBy, IsReadBehind};
+ghost use Rattle.vc_daut.specs.Heads.{HeadLine, head_line};
+ghost use Rattle.vc_daut.specs.Lines.{lines_of, more_lines};
+ghost use Rattle.vc_daut.specs.Meaning.{given_by, number_of};
+ghost use Rattle.vc_daut.specs.Names.{line_names};
+ghost use Rattle.vc_daut.specs.Passes.{AreAdded, IsWant, fault_at, with_states};
+ghost use Rattle.vc_daut.specs.Spelling.{AreOver, IsLineOver, line_in, lines_in};
+ghost use Rattle.vc_daut.specs.Views.{names_seen};
+ghost use Rattle.vc_model.specs.Lists.{In};
+
+use crate::add::add_line;
+use crate::check::check_lines;
+use crate::fault::DautFault;
+use crate::head::{Head, head_of};
+use crate::label::Tapes;
+use crate::line::line_of;
+use crate::lines::cut_line;
+use crate::names::{Names, in_order};
+use crate::tokens::cut_tokens;
+use indexmap::IndexSet;
+use std::alloc::Global;
+use vc_aut::{Automaton, Builder};
+use vc_label::LabelSet;
+use vc_lex::Token;
+use vc_ring::{Limit, MakeFault, Measure, Semiring};
+
+const MOST_STATES: u64 = 1_000_000;
+
+fn fault_at<V>(line: u64, fault: MakeFault<V>) -> DautFault<V>
+    ensures { result ≡ fault_at line fault }
+{
+    match fault {
+        MakeFault::Overflow(of) => DautFault::Overflow { line, of },
+        MakeFault::Limit(limit) => DautFault::Limit(limit),
+        MakeFault::Memory(e) => DautFault::Memory(e),
+    }
+}
+
+/// Adds what a text gives that is a line.
+fn add_text<'t, L: LabelSet, S: Semiring>(
+    alloc: Global,
+    builder: &mut Builder<L, S>,
+    labels: &L,
+    tapes: &mut Tapes,
+    tokens: &mut Vec<Token<'t>>,
+    names: &Names<'_>,
+    text: &'t [u8],
+) -> Result<(), MakeFault<S::Value>>
+    requires sets { builder.old.sets ≡ L.sets labels.now }
+    requires states { builder.old.automaton.states ≡ length (names_seen names.now) }
+    requires named { (a : List ℕ) → In a (line_names (line_in S.spelled text.now)) → In a (names_seen names.now) }
+    requires over { IsLineOver (L.sets labels.now) (line_in S.spelled text.now) }
+    ensures answer { IsAdded S.set S.spelled S.numbers_fit (line_weights (line_in S.spelled text.now)) builder.old
+        (given_by S.set S.spelled (L.sets labels.now) (number_of (names_seen names.now)) (line_in S.spelled text.now)) builder.new result }
+    ensures kept { OnOk result (KeepsShape builder.old builder.new) }
+{
+    match cut_tokens(text, tokens) {
+        Ok(true) => {}
+        Ok(false) => return Ok(()),
+        Err(e) => return Err(MakeFault::Memory(e)),
+    }
+    let Some(line) = line_of::<S>(tokens) else {
+        return Ok(());
+    };
+    add_line(alloc, builder, labels, tapes, names, &line)
+}
+
+/// Adds what the lines of a text give, of which the first has this number.
+fn add_lines<L: LabelSet, S: Semiring>(
+    alloc: Global,
+    builder: &mut Builder<L, S>,
+    labels: &L,
+    names: &Names<'_>,
+    text: &[u8],
+    first: u64,
+) -> Result<(), DautFault<S::Value>>
+    requires room { first + length text.now < 2 ^ 64 }
+    requires sets { builder.old.sets ≡ L.sets labels.now }
+    requires states { builder.old.automaton.states ≡ length (names_seen names.now) }
+    requires named { (a : List ℕ) → In a (flat_map line_names (lines_in S.spelled (more_lines text.now))) → In a (names_seen names.now) }
+    requires over { AreOver (L.sets labels.now) (lines_in S.spelled (more_lines text.now)) }
+    ensures { AreAdded S.set S.spelled S.numbers_fit (given_by S.set S.spelled (L.sets labels.now) (number_of (names_seen names.now)))
+        first (lines_in S.spelled (more_lines text.now)) builder.old builder.new result }
+{
+    let mut tokens = Vec::new(alloc);
+    let mut tapes = Tapes::new(alloc);
+    let mut number = first;
+    let mut rest = text;
+    while !rest.is_empty() {
+        let (line, after) = cut_line(rest);
+        if let Err(fault) = add_text(alloc, builder, labels, &mut tapes, &mut tokens, names, line) {
+            return Err(fault_at(number, fault));
+        }
+        rest = after;
+        number += 1;
+    }
+    Ok(())
+}
+
+/// Adds so many states.
+fn add_states<L: LabelSet, S: Semiring>(
+    builder: &mut Builder<L, S>,
+    count: usize,
+) -> Result<(), MakeFault<S::Value>>
+    requires { builder.old.automaton.states + count ≤ builder.old.most }
+    ensures ok { OnOk result (builder.new ≡ with_states S.set count builder.old) }
+    ensures err { IfErr result IsWant }
+{
+    for _ in 0..count {
+        if let Err(fault) = builder.add_state() {
+            return Err(fault);
+        }
+    }
+    Ok(())
+}
+
+/// The automaton of the lines of a text, of which the first has this number, where the names of their states are these.
+fn build<L: LabelSet, S: Semiring>(
+    alloc: Global,
+    labels: L,
+    names: &Names<'_>,
+    text: &[u8],
+    first: u64,
+) -> Result<Automaton<L, S>, DautFault<S::Value>>
+    requires room { first + length text.now < 2 ^ 64 }
+    requires few { length (names_seen names.now) ≤ 1000000 }
+    requires named { (a : List ℕ) → In a (flat_map line_names (lines_in S.spelled (more_lines text.now))) → In a (names_seen names.now) }
+    requires over { AreOver (L.sets labels) (lines_in S.spelled (more_lines text.now)) }
+    ensures { IsBuiltBy S.set S.Value.eq S.spelled S.numbers_fit (L.sets labels) first (lines_in S.spelled (more_lines text.now)) (names_seen names.now) result }
+{
+    let mut builder = Builder::new(alloc, labels, MOST_STATES);
+    if let Err(fault) = add_states(&mut builder, names.len()) {
+        return Err(fault_at(first, fault));
+    }
+    if let Err(fault) = add_lines(alloc, &mut builder, &labels, names, text, first) {
+        return Err(fault);
+    }
+    match builder.finish() {
+        Ok(automaton) => return Ok(automaton),
+        Err(e) => return Err(DautFault::Memory(e)),
+    }
+}
+
+/// The automaton of the lines behind the context line, over these labels.
+///
+/// The context line is the first line that is not blank; what it says is not read here. Where all lines are blank, the
+/// answer is `Syntax` with the last one. Otherwise `Syntax` comes where a line behind it is outside the grammar, and then
+/// `NotALabel` where a label is not in the label set; and where neither comes, `Overflow` where a number is past its
+/// range or a sum of equal entries, in the order of the file, does not fit, and `Limit` where more than 1,000,000 states
+/// or 4,000,000 transitions are named.
+pub fn read_daut<L: LabelSet, S: Semiring>(
+    alloc: Global,
+    bytes: &[u8],
+    labels: L,
+) -> Result<Automaton<L, S>, DautFault<S::Value>>
+    ensures blank { head_line 1 (lines_of bytes.now) ≡ None → result ≡ Err (Syntax (length (lines_of bytes.now))) }
+    ensures behind { (h : HeadLine) → head_line 1 (lines_of bytes.now) ≡ Some h → IsReadBehind S.set S.Value.eq S.spelled S.numbers_fit (L.sets labels) h result }
+{
+    let (line, text) = match head_of(bytes) {
+        Head::Blank(line) => return Err(DautFault::Syntax { line }),
+        Head::Line(line, _, text) => (line + 1, text),
+    };
+    let mut found = IndexSet::new(alloc);
+    if let Err(fault) = check_lines::<L, S>(alloc, &labels, text, line, &mut found) {
+        return Err(fault);
+    }
+    if found.len() as u64 > MOST_STATES {
+        return Err(DautFault::Limit(Limit {
+            what: Measure::States,
+            most: MOST_STATES,
+        }));
+    }
+    let names = match in_order(alloc, &found) {
+        Ok(names) => names,
+        Err(e) => return Err(DautFault::Memory(e)),
+    };
+    build(alloc, labels, &names, text, line)
+}
