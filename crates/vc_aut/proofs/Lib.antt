@@ -7,3 +7,4 @@ pub mod Inserted
 pub mod Drafted
 pub mod Added
 pub mod States
+pub mod EmptyLabels

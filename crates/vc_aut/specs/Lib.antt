@@ -5,3 +5,4 @@ pub mod Stored
 pub mod Drafts
 pub mod Refusals
 pub mod Sums
+pub mod EmptyLabels

@@ -3,7 +3,7 @@ ghost use Rattle.vc_aut.specs.Drafts.{Draft, IsDraft, with_final, with_initial, 
 ghost use Rattle.vc_aut.specs.Order.{AreInOrder};
 ghost use Rattle.vc_aut.specs.Sums.{insert_all, insert_transition, standing};
 ghost use Rattle.vc_aut.specs.Validity.{IsLabelled, IsMove};
-ghost use Rattle.vc_model.specs.Automata.{IsAutomaton, Transition, final_weight, initial_weight, triple};
+ghost use Rattle.vc_model.specs.Automata.{IsAutomaton, IsProper, Transition, final_weight, initial_weight, triple};
 ghost use Rattle.vc_model.specs.Gathered.{IsGathered, same_triple, weight_at};
 ghost use Rattle.vc_model.specs.Lists.{In, IsEqualityTest};
 ghost use Rattle.vc_model.specs.WeightSet.{WeightSet, SemiringLaws};
@@ -11,6 +11,7 @@ ghost use Rattle.vc_model.specs.Words.{Word};
 
 use crate::automaton::Automaton;
 use crate::builder::Builder;
+use crate::proper::Proper;
 use vc_label::{LabelSet, words_are_ordered};
 use vc_ring::Semiring;
 
@@ -24,6 +25,18 @@ pub fn automata_are_valid<L: LabelSet, S: Semiring>(aut: &Automaton<L, S>)
 {
     let _ = &aut.labels;
     words_are_ordered();
+}
+
+/// What is true of each proper automaton: all that is true of each automaton, and no label is
+/// empty.
+pub fn proper_automata_are_proper<L: LabelSet, S: Semiring>(aut: &Proper<L, S>)
+    ensures labelled { IsLabelled S.set aut.now }
+    ensures automaton { IsAutomaton S.set (length aut.now.sets) aut.now.automaton }
+    ensures moves { (t : Transition S.Value) → In t aut.now.automaton.transitions
+        → IsMove S.set aut.now.sets aut.now.automaton.states t }
+    ensures proper { IsProper aut.now.automaton }
+{
+    automata_are_valid(&aut.automaton);
 }
 
 /// What is true of each builder: its labels are over its sets, its weights are in range, its

@@ -5,14 +5,17 @@ mod automaton;
 mod builder;
 mod laws;
 mod moves;
+mod proper;
 mod starts;
 mod transition;
 
 pub use automaton::Automaton;
 pub use builder::Builder;
 pub use laws::{
-    automata_are_valid, drafts_are_sums, drafts_are_valid, states_are_added, transitions_are_added,
+    automata_are_valid, drafts_are_sums, drafts_are_valid, proper_automata_are_proper,
+    states_are_added, transitions_are_added,
 };
+pub use proper::Proper;
 pub use transition::Transition;
 
 #[cfg(test)]

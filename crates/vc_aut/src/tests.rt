@@ -4,7 +4,7 @@ ghost use Rattle.std.proofs.lemmas.List.Elements.{All-cons, All-nil};
 ghost use Rattle.vc_ring.specs.Texts.{IsWeightByte};
 ghost use Rattle.std.proofs.Math.Bool.{or_assoc, or_comm, or-false, and_assoc, and_comm, and-true, and-false, and-or_distrib_left};
 
-use crate::Builder;
+use crate::{Automaton, Builder};
 use std::alloc::{AllocError, Global};
 use std::test::Fail;
 use vc_label::{Alphabet, LabelFault, LabelSet, TapeKind, TapeSet, Word, WordBuf};
@@ -161,5 +161,34 @@ fn builder_counts_states_and_drops_zeros(rt: HostRuntime) -> Result<(), Fail> {
     assert_eq!(rt; transitions.len(), 1);
     assert_eq!(rt; (transitions[0].to, transitions[0].weight), (1, true));
     assert_eq!(rt; aut.transitions_from(1).len(), 0);
+    Ok(())
+}
+
+/// One state with a transition to itself, which is dropped where its weight is zero.
+fn with_loop(alloc: Global, weight: bool) -> Result<Automaton<Silent, Truth>, Fail> {
+    let set = TapeSet {
+        kind: TapeKind::Words,
+        alphabet: Alphabet::new(),
+    };
+    let mut builder = Builder::<Silent, Truth>::new(alloc, Silent { set }, 1);
+    let state = builder.add_state()?;
+    builder.add_final(state, true)?;
+    builder.add_transition(state, (), state, weight)?;
+    let aut = builder.finish()?;
+    Ok(aut)
+}
+
+#[test]
+fn automaton_with_an_empty_label_is_handed_back(rt: HostRuntime) -> Result<(), Fail> {
+    let aut = with_loop(rt.alloc(), true)?.into_proper().err();
+    let aut = aut.ok_or("an empty label passed")?;
+    assert_eq!(rt; aut.states(), 1);
+    assert_eq!(rt; aut.final_weight(0), true);
+    assert_eq!(rt; aut.transitions_from(0).len(), 1);
+    let proper = with_loop(rt.alloc(), false)?.into_proper().ok();
+    let proper = proper.ok_or("no label is empty")?;
+    assert_eq!(rt; proper.automaton().states(), 1);
+    assert_eq!(rt; proper.automaton().final_weight(0), true);
+    assert_eq!(rt; proper.automaton().transitions_from(0).len(), 0);
     Ok(())
 }

@@ -1,4 +1,4 @@
--- Sums over lines, one line more.
+-- Sums over items, one item more.
 use Rattle.std.proofs.Common.{◌≡◌, ◌≢◌, ◌⊎◌, ◌<◌, ◌+◌, ◌-◌, ℕ, zero, suc, List, [], ◌∷◌, ◌++◌, length, map, set, get_or, true, false, cond, eqb, inl, inr, refl, sym, ap, ap₂, ◌∙◌, subst, arith}
 use Rattle.std.specs.List.{filter}
 use Rattle.std.proofs.lemmas.List.Elements.{filter-append}
@@ -9,7 +9,7 @@ use Rattle.vc_model.specs.WeightSet.{WeightSet, SemiringLaws}
 use Rattle.vc_model.specs.Sums.{sum_over}
 use Rattle.vc_model.proofs.Members.{NoRepeat-filter, NoRepeat-up_from}
 use Rattle.vc_model.proofs.SumLaws.{sum-append}
-use Rattle.vc_first.specs.Grammar.{Line}
+use Rattle.vc_first.specs.Items.{Item}
 use Rattle.vc_first.specs.Automata.{is_state, digits_of, number_of}
 
 up_split : (s m n : ℕ) → up_from s (m + n) ≡ up_from s m ++ up_from (s + m) n
@@ -27,18 +27,18 @@ at_seam [] y ys d = refl
 at_seam (x ∷ xs) y ys d = at_seam xs y ys d
 
 -- the digit of a state stands at the place of its number
-pub digit_at : (lines : List Line) (n d : ℕ) → n < 10 → is_state lines n ≡ true → get_or (digits_of lines) (number_of lines n) d ≡ n
-digit_at lines n d h s =
+pub digit_at : (items : List Item) (n d : ℕ) → n < 10 → is_state items n ≡ true → get_or (digits_of items) (number_of items n) d ≡ n
+digit_at items n d h s =
     let e : n + suc (9 - n) ≡ 10 = omega arith in
     let f : 0 + n ≡ n = omega arith in
-    ap (λ k. get_or (filter (is_state lines) (below k)) (number_of lines n) d) (sym e)
-    ∙ ap (λ xs. get_or (filter (is_state lines) xs) (number_of lines n) d) (up_split 0 n (suc (9 - n)) ∙ ap (λ k. below n ++ up_from k (suc (9 - n))) f)
-    ∙ ap (λ xs. get_or xs (number_of lines n) d) (filter-append (is_state lines) (below n) (n ∷ up_from (suc n) (9 - n)))
-    ∙ ap (λ b. get_or (filter (is_state lines) (below n) ++ cond b (n ∷ filter (is_state lines) (up_from (suc n) (9 - n))) (filter (is_state lines) (up_from (suc n) (9 - n)))) (number_of lines n) d) s
-    ∙ at_seam (filter (is_state lines) (below n)) n (filter (is_state lines) (up_from (suc n) (9 - n))) d
+    ap (λ k. get_or (filter (is_state items) (below k)) (number_of items n) d) (sym e)
+    ∙ ap (λ xs. get_or (filter (is_state items) xs) (number_of items n) d) (up_split 0 n (suc (9 - n)) ∙ ap (λ k. below n ++ up_from k (suc (9 - n))) f)
+    ∙ ap (λ xs. get_or xs (number_of items n) d) (filter-append (is_state items) (below n) (n ∷ up_from (suc n) (9 - n)))
+    ∙ ap (λ b. get_or (filter (is_state items) (below n) ++ cond b (n ∷ filter (is_state items) (up_from (suc n) (9 - n))) (filter (is_state items) (up_from (suc n) (9 - n)))) (number_of items n) d) s
+    ∙ at_seam (filter (is_state items) (below n)) n (filter (is_state items) (up_from (suc n) (9 - n))) d
 
-pub digits_once : (lines : List Line) → NoRepeat (digits_of lines)
-digits_once lines = NoRepeat-filter (is_state lines) (below 10) (NoRepeat-up_from 0 10)
+pub digits_once : (items : List Item) → NoRepeat (digits_of items)
+digits_once items = NoRepeat-filter (is_state items) (below 10) (NoRepeat-up_from 0 10)
 
 module _ {V : Type 0} {R : WeightSet V} (L : SemiringLaws R) where
   others : (n : ℕ) (w : V) (f : ℕ → V) (xs : List ℕ) → ¬ In n xs → map f xs ≡ map (λ d. R.plus (f d) (cond (eqb n d) w R.zero)) xs
@@ -67,6 +67,6 @@ module _ {V : Type 0} {R : WeightSet V} (L : SemiringLaws R) where
       same (inl q) = absurd (r.0 (subst (λ k. In k xs) q.1 (inside xs p (omega arith) e)))
       same (inr q) = sym (ap (λ b. R.plus (f x) (cond b w R.zero)) q.0 ∙ L.plus_zero (f x))
 
-  -- a sum over one line more
+  -- a sum over one item more
   pub sum_more : {X : Type 0} (f : X → V) (xs : List X) (x : X) → sum_over R f (xs ++ x ∷ []) ≡ R.plus (sum_over R f xs) (f x)
   sum_more f xs x = sum-append L f xs (x ∷ []) ∙ ap (R.plus (sum_over R f xs)) (L.plus_zero (f x))

@@ -1,55 +1,79 @@
--- Whole files and word texts: what is read is spelled so, and what is spelled so is read.
+-- First lines, lines and word texts: what is read is spelled so, and what is spelled so is read.
 use Rattle.std.proofs.Common.{◌≡◌, ◌≤◌, ◌+◌, ℕ, suc, List, [], ◌∷◌, ◌++◌, length, map, take, drop, Option, None, Some, Bool, true, false, ◌&&◌, if◌then◌else◌, nat_le, refl, sym, ap, ap₂, ◌∙◌, inl, inr, subst, arith}
 use Rattle.std.specs.Prelude.{codes}
 use Rattle.std.specs.Str.{bytes_eq}
 use Rattle.std.proofs.lemmas.Bool.{and_parts, and_from, leb-true, le-leb}
-use Rattle.std.proofs.lemmas.List.{append_assoc, take-append-drop}
+use Rattle.std.proofs.lemmas.List.{append_assoc, append-nil, take-append-drop}
 use Rattle.std.proofs.Math.Seq.{take-append_seam}
 use lib.Pointwise.{bytes_decides}
 use Rattle.vc_model.specs.Lists.{In}
-use Rattle.vc_first.specs.Grammar.{is_plain, Line, line_text, IsLine, head_text, lines_of, word_text, SpellsWord, IsInput}
-use Rattle.vc_first.specs.Reading.{is_in, all_in, word_at, line_at, more_lines, lines_at, plain_length, context_front, context_end, alphabet_at, head_at, Input, with_word, with_head, input_of, input_at}
-use Rattle.vc_first.proofs.Spelling.{guarded, some_same, is_in-In, In-is_in, line_sound, line_complete}
+use Rattle.vc_context.specs.declared.context.Weights.{Weights}
+use Rattle.vc_context.specs.declared.context.Weights.TheVariants.{B, F2, Z, Q, Nmin}
+use Rattle.vc_first.specs.Grammar.{is_plain, Line, line_text, IsLine, AreLines, Head, HasHead, head_end, head_text, lines_of, word_text, SpellsWord}
+use Rattle.vc_first.specs.Items.{Item, items_by, items_of}
+use Rattle.vc_first.specs.Reading.{all_plain, word_at, line_at, line_items, more_items, items_at, plain_length, weights_at, head_front, with_weights, alphabet_at, head_of, head_at}
+use Rattle.vc_first.proofs.Spelling.{guarded, some_same, drop_seam, line_sound, line_complete}
 
 same_bytes : (a b : List ℕ) → bytes_eq a b ≡ true → a ≡ b
 same_bytes a b h = (bytes_decides a b).0 h
 
-append_none : {X : Type 0} (xs : List X) → xs ++ [] ≡ xs
-append_none [] = refl
-append_none (x ∷ xs) = ap (λ ys. x ∷ ys) (append_none xs)
+module _ (W : List ℕ → Bool) where
+  -- the items of the lines behind those in front
+  pub record AreSaid (front : List Item) (texts : List (List ℕ)) (items : List Item) : Type 0 where
+    pub lines : List Line
+    pub all : items ≡ front ++ items_of lines
+    pub texts_are : texts ≡ map line_text lines
+    pub each : (l : Line) → In l lines → IsLine W l
 
-drop_seam : (xs ys : List ℕ) → drop (length xs) (xs ++ ys) ≡ ys
-drop_seam [] ys = refl
-drop_seam (x ∷ xs) ys = drop_seam xs ys
+  each_more : (l : Line) (ls : List Line) (k : Line) → In k (l ∷ ls) → IsLine W l → ((j : Line) → In j ls → IsLine W j) → IsLine W k
+  each_more l ls k (inl i) a b = subst (IsLine W) (sym i) a
+  each_more l ls k (inr i) a b = b k i
 
--- the lines behind those in front
-pub record AreLines (A : List ℕ) (front : List Line) (texts : List (List ℕ)) (ls : List Line) : Type 0 where
-  pub lines : List Line
-  pub all : ls ≡ front ++ lines
-  pub texts_are : texts ≡ map line_text lines
-  pub each : (l : Line) → In l lines → IsLine A l
+  items_sound : (front : List Item) (texts : List (List ℕ)) (items : List Item) → items_at W front texts ≡ Some items → AreSaid front texts items
+  items_sound front [] items h = record { lines = []; all = sym (some_same front items h) ∙ sym (append-nil front); texts_are = refl; each = λ l i. absurd i }
+  items_sound front (text ∷ texts) items h = go (line_at W text) refl (λ l q. items_sound (front ++ items_by l) texts items q) h
+    where
+      go : (o : Option Line) → line_at W text ≡ o → ((l : Line) → items_at W (front ++ items_by l) texts ≡ Some items → AreSaid (front ++ items_by l) texts items)
+          → more_items (line_items front o) (λ f. items_at W f texts) ≡ Some items → AreSaid front (text ∷ texts) items
+      go None e r h = absurd (cc h)
+      go (Some l) e r h =
+          let q = r l h in
+          let s = line_sound W text l e in
+          record { lines = l ∷ q.lines; all = q.all ∙ append_assoc front (items_by l) (items_of q.lines); texts_are = ap₂ (λ x y. x ∷ y) s.0 q.texts_are; each = λ k i. each_more l q.lines k i s.1 q.each }
 
-each_more : (A : List ℕ) (l : Line) (ls : List Line) (k : Line) → In k (l ∷ ls) → IsLine A l → ((j : Line) → In j ls → IsLine A j) → IsLine A k
-each_more A l ls k (inl i) a b = subst (IsLine A) (sym i) a
-each_more A l ls k (inr i) a b = b k i
+  pub items_complete : (front : List Item) (ls : List Line) → ((l : Line) → In l ls → IsLine W l) → items_at W front (map line_text ls) ≡ Some (front ++ items_of ls)
+  items_complete front [] a = ap Some (sym (append-nil front))
+  items_complete front (l ∷ ls) a =
+      ap (λ o. more_items (line_items front o) (λ f. items_at W f (map line_text ls))) (line_complete W l (a l (inl refl)))
+      ∙ items_complete (front ++ items_by l) ls (λ k i. a k (inr i)) ∙ ap Some (append_assoc front (items_by l) (items_of ls))
 
-lines_sound : (A : List ℕ) (front : List Line) (texts : List (List ℕ)) (ls : List Line) → lines_at A front texts ≡ Some ls → AreLines A front texts ls
-lines_sound A front [] ls h = record { lines = []; all = sym (some_same front ls h) ∙ sym (append_none front); texts_are = refl; each = λ l i. absurd i }
-lines_sound A front (text ∷ texts) ls h = go (line_at A text) refl (λ l q. lines_sound A (front ++ l ∷ []) texts ls q) h
-  where
-    go : (o : Option Line) → line_at A text ≡ o → ((l : Line) → lines_at A (front ++ l ∷ []) texts ≡ Some ls → AreLines A (front ++ l ∷ []) texts ls)
-        → more_lines front o (λ f. lines_at A f texts) ≡ Some ls → AreLines A front (text ∷ texts) ls
-    go None e r h = absurd (cc h)
-    go (Some l) e r h =
-        let q = r l h in
-        let s = line_sound A text l e in
-        record { lines = l ∷ q.lines; all = q.all ∙ append_assoc front (l ∷ []) q.lines; texts_are = ap₂ (λ x y. x ∷ y) s.0 q.texts_are; each = λ k i. each_more A l q.lines k i s.1 q.each }
+  -- what is read is what the lines say
+  pub items_read : (texts : List (List ℕ)) (items : List Item) → items_at W [] texts ≡ Some items → (lines : List Line) × AreLines W texts lines × (items ≡ items_of lines)
+  items_read texts items h = let s = items_sound [] texts items h in (s.lines, record { texts_are = s.texts_are; each = s.each }, s.all)
 
-lines_complete : (A : List ℕ) (front ls : List Line) → ((l : Line) → In l ls → IsLine A l) → lines_at A front (map line_text ls) ≡ Some (front ++ ls)
-lines_complete A front [] a = ap Some (sym (append_none front))
-lines_complete A front (l ∷ ls) a =
-    ap (λ o. more_lines front o (λ f. lines_at A f (map line_text ls))) (line_complete A l (a l (inl refl)))
-    ∙ lines_complete A (front ++ l ∷ []) ls (λ k i. a k (inr i)) ∙ ap Some (append_assoc front (l ∷ []) ls)
+  -- what is not read is no lines
+  pub items_refused : (texts : List (List ℕ)) → items_at W [] texts ≡ None → (lines : List Line) → ¬ AreLines W texts lines
+  items_refused texts e lines a = none (items_of lines) (sym e ∙ ap (items_at W []) a.texts_are ∙ items_complete [] lines a.each)
+    where
+      none : (i : List Item) → None ≡ Some i → ⊥
+      none i q = absurd (cc q)
+
+  -- a line from its text
+  line_once : (l m : Line) → IsLine W l → IsLine W m → line_text l ≡ line_text m → l ≡ m
+  line_once l m h k e = some_same l m (sym (line_complete W l h) ∙ ap (line_at W) e ∙ line_complete W m k)
+
+  pub lines_once : (ls ms : List Line) → ((l : Line) → In l ls → IsLine W l) → ((l : Line) → In l ms → IsLine W l) → map line_text ls ≡ map line_text ms → ls ≡ ms
+  lines_once [] [] a b e = refl
+  lines_once [] (m ∷ ms) a b e = absurd (cc e)
+  lines_once (l ∷ ls) [] a b e = absurd (cc e)
+  lines_once (l ∷ ls) (m ∷ ms) a b e =
+      let h : line_text l ≡ line_text m = cc e in
+      let t : map line_text ls ≡ map line_text ms = cc e in
+      ap₂ (λ x y. x ∷ y) (line_once l m (a l (inl refl)) (b m (inl refl)) h) (lines_once ls ms (λ k i. a k (inr i)) (λ k i. b k (inr i)) t)
+
+  -- texts are at most one list of lines
+  pub one_list : (texts : List (List ℕ)) (ls ms : List Line) → AreLines W texts ls → AreLines W texts ms → ls ≡ ms
+  one_list texts ls ms a b = lines_once ls ms a.each b.each (sym a.texts_are ∙ b.texts_are)
 
 plain_front : (t : List ℕ) (x : ℕ) → In x (take (plain_length t) t) → is_plain x ≡ true
 plain_front [] x i = absurd i
@@ -71,100 +95,133 @@ plain_all (x ∷ A) r p =
     let s : length A + 1 ≡ suc (length A) = omega arith in
     ap (λ b. if b then plain_length (A ++ 41 ∷ r) + 1 else 0) (p x (inl refl)) ∙ ap (λ n. n + 1) (plain_all A r (λ k i. p k (inr i))) ∙ s
 
-alphabet_sound : (n : ℕ) (t A : List ℕ) → alphabet_at n t ≡ Some A → (t ≡ A ++ context_end) × (A ≡ take n t)
-alphabet_sound n t A e =
-    let g = guarded (bytes_eq (drop n t) context_end) (Some (take n t)) A e in
-    subst (λ k. (t ≡ k ++ context_end) × (k ≡ take n t)) (some_same (take n t) A g.1)
-    (sym (take-append-drop n t) ∙ ap (λ z. take n t ++ z) (same_bytes (drop n t) context_end g.0), refl)
+-- the end of a first line names one weight set
+weights_sound : (text : List ℕ) (w : Weights) → weights_at text ≡ Some w → text ≡ head_end w
+weights_sound text w h = b (bytes_eq text (head_end B)) refl h
+  where
+    Good : Weights → Type 0
+    Good w = text ≡ head_end w
 
-head_sound : (text A : List ℕ) → head_at text ≡ Some A → (text ≡ head_text A) × ((x : ℕ) → In x A → is_plain x ≡ true)
-head_sound text A e =
-    let g = guarded (bytes_eq (take 20 text) context_front) (alphabet_at (plain_length (drop 20 text)) (drop 20 text)) A e in
-    let a = alphabet_sound (plain_length (drop 20 text)) (drop 20 text) A g.1 in (
-      sym (take-append-drop 20 text) ∙ ap₂ (λ x y. x ++ y) (same_bytes (take 20 text) context_front g.0) a.0,
-      λ x i. plain_front (drop 20 text) x (subst (λ z. In x z) a.1 i),
+    nmin : Option Weights
+    nmin = if bytes_eq text (head_end Nmin) then Some Nmin else None
+
+    q_on : Option Weights
+    q_on = if bytes_eq text (head_end Q) then Some Q else nmin
+
+    z_on : Option Weights
+    z_on = if bytes_eq text (head_end Z) then Some Z else q_on
+
+    f2_on : Option Weights
+    f2_on = if bytes_eq text (head_end F2) then Some F2 else z_on
+
+    q : (t : Bool) → bytes_eq text (head_end Q) ≡ t → (if t then Some Q else nmin) ≡ Some w → Good w
+    q true e h = subst Good (some_same Q w h) (same_bytes text (head_end Q) e)
+    q false e h = let g = guarded (bytes_eq text (head_end Nmin)) (Some Nmin) w h in subst Good (some_same Nmin w g.1) (same_bytes text (head_end Nmin) g.0)
+
+    z : (t : Bool) → bytes_eq text (head_end Z) ≡ t → (if t then Some Z else q_on) ≡ Some w → Good w
+    z true e h = subst Good (some_same Z w h) (same_bytes text (head_end Z) e)
+    z false e h = q (bytes_eq text (head_end Q)) refl h
+
+    f2 : (t : Bool) → bytes_eq text (head_end F2) ≡ t → (if t then Some F2 else z_on) ≡ Some w → Good w
+    f2 true e h = subst Good (some_same F2 w h) (same_bytes text (head_end F2) e)
+    f2 false e h = z (bytes_eq text (head_end Z)) refl h
+
+    b : (t : Bool) → bytes_eq text (head_end B) ≡ t → (if t then Some B else f2_on) ≡ Some w → Good w
+    b true e h = subst Good (some_same B w h) (same_bytes text (head_end B) e)
+    b false e h = f2 (bytes_eq text (head_end F2)) refl h
+
+weights_complete : (w : Weights) → weights_at (head_end w) ≡ Some w
+weights_complete B = refl
+weights_complete F2 = refl
+weights_complete Z = refl
+weights_complete Q = refl
+weights_complete Nmin = refl
+
+alphabet_sound : (n : ℕ) (t : List ℕ) (texts : List (List ℕ)) (h : Head) → alphabet_at n t texts ≡ Some h → (t ≡ h.alphabet ++ head_end h.weights) × (h.alphabet ≡ take n t) × (texts ≡ h.texts)
+alphabet_sound n t texts h e = go (weights_at (drop n t)) refl e
+  where
+    go : (o : Option Weights) → weights_at (drop n t) ≡ o → with_weights (take n t) texts o ≡ Some h → (t ≡ h.alphabet ++ head_end h.weights) × (h.alphabet ≡ take n t) × (texts ≡ h.texts)
+    go None q e = absurd (cc e)
+    go (Some w) q e =
+        subst (λ (k : Head). (t ≡ k.alphabet ++ head_end k.weights) × (k.alphabet ≡ take n t) × (texts ≡ k.texts)) (some_same (record { alphabet = take n t; weights = w; texts = texts }) h e)
+        (sym (take-append-drop n t) ∙ ap (λ z. take n t ++ z) (weights_sound (drop n t) w q), refl, refl)
+
+head_of_sound : (texts : List (List ℕ)) (h : Head) → head_of texts ≡ Some h → (texts ≡ head_text h.alphabet h.weights ∷ h.texts) × ((x : ℕ) → In x h.alphabet → is_plain x ≡ true)
+head_of_sound [] h e = absurd (cc e)
+head_of_sound (first ∷ texts) h e =
+    let g = guarded (bytes_eq (take 20 first) head_front) (alphabet_at (plain_length (drop 20 first)) (drop 20 first) texts) h e in
+    let a = alphabet_sound (plain_length (drop 20 first)) (drop 20 first) texts h g.1 in (
+      ap₂ (λ x y. x ∷ y) (sym (take-append-drop 20 first) ∙ ap₂ (λ x y. x ++ y) (same_bytes (take 20 first) head_front g.0) a.0) a.2,
+      λ x i. plain_front (drop 20 first) x (subst (λ z. In x z) a.1 i),
     )
 
-alphabet_complete : (A : List ℕ) → alphabet_at (length A) (A ++ context_end) ≡ Some A
-alphabet_complete A = ap₂ (λ d k. if bytes_eq d context_end then Some k else None) (drop_seam A context_end) (take-append_seam A context_end)
+-- what is read as a head is one
+pub head_sound : (bytes : List ℕ) (h : Head) → head_at bytes ≡ Some h → HasHead bytes h
+head_sound bytes h e = let s = head_of_sound (lines_of bytes) h e in record { lines_are = s.0; plain = s.1 }
 
-head_complete : (A : List ℕ) → ((x : ℕ) → In x A → is_plain x ≡ true) → head_at (head_text A) ≡ Some A
-head_complete A p = ap (λ n. alphabet_at n (A ++ context_end)) (plain_all A (codes ", b\"") p) ∙ alphabet_complete A
+end_begins : (A : List ℕ) (w : Weights) → ((x : ℕ) → In x A → is_plain x ≡ true) → plain_length (A ++ head_end w) ≡ length A
+end_begins A B p = plain_all A (codes ", b\"") p
+end_begins A F2 p = plain_all A (codes ", f2\"") p
+end_begins A Z p = plain_all A (codes ", z\"") p
+end_begins A Q p = plain_all A (codes ", q\"") p
+end_begins A Nmin p = plain_all A (codes ", nmin\"") p
 
-all_each : (A xs : List ℕ) → all_in A xs ≡ true → (x : ℕ) → In x xs → In x A
-all_each A [] h x i = absurd i
-all_each A (y ∷ xs) h x (inl e) = subst (λ z. In z A) (sym e) (is_in-In A y (and_parts (is_in A y) (all_in A xs) h).0)
-all_each A (y ∷ xs) h x (inr i) = all_each A xs (and_parts (is_in A y) (all_in A xs) h).1 x i
+pub head_complete : (bytes : List ℕ) (h : Head) → HasHead bytes h → head_at bytes ≡ Some h
+head_complete bytes h k =
+    ap head_of k.lines_are
+    ∙ ap (λ n. alphabet_at n (h.alphabet ++ head_end h.weights) h.texts) (end_begins h.alphabet h.weights k.plain)
+    ∙ ap₂ (λ d a. with_weights a h.texts (weights_at d)) (drop_seam h.alphabet (head_end h.weights)) (take-append_seam h.alphabet (head_end h.weights))
+    ∙ ap (with_weights h.alphabet h.texts) (weights_complete h.weights)
 
-each_all : (A xs : List ℕ) → ((x : ℕ) → In x xs → In x A) → all_in A xs ≡ true
-each_all A [] h = refl
-each_all A (y ∷ xs) h = and_from (is_in A y) (all_in A xs) (In-is_in A y (h y (inl refl))) (each_all A xs (λ x i. h x (inr i)))
+pub head_refused : (bytes : List ℕ) → head_at bytes ≡ None → (h : Head) → ¬ HasHead bytes h
+head_refused bytes e h k = none (sym e ∙ head_complete bytes h k)
+  where
+    none : None ≡ Some h → ⊥
+    none q = absurd (cc q)
 
-word_sound : (A text w : List ℕ) → word_at A text ≡ Some w → SpellsWord text A w
-word_sound A text w h = go (bytes_eq text (codes "\\e")) refl h
+pub one_head : (bytes : List ℕ) (h k : Head) → HasHead bytes h → HasHead bytes k → h ≡ k
+one_head bytes h k a b = some_same h k (sym (head_complete bytes h a) ∙ head_complete bytes k b)
+
+all_each : (xs : List ℕ) → all_plain xs ≡ true → (x : ℕ) → In x xs → is_plain x ≡ true
+all_each [] h x i = absurd i
+all_each (y ∷ xs) h x (inl e) = ap is_plain e ∙ (and_parts (is_plain y) (all_plain xs) h).0
+all_each (y ∷ xs) h x (inr i) = all_each xs (and_parts (is_plain y) (all_plain xs) h).1 x i
+
+each_all : (xs : List ℕ) → ((x : ℕ) → In x xs → is_plain x ≡ true) → all_plain xs ≡ true
+each_all [] h = refl
+each_all (y ∷ xs) h = and_from (is_plain y) (all_plain xs) (h y (inl refl)) (each_all xs (λ x i. h x (inr i)))
+
+pub word_sound : (text w : List ℕ) → word_at text ≡ Some w → SpellsWord text w
+word_sound text w h = go (bytes_eq text (codes "\\e")) refl h
   where
     full : (u : List ℕ) → 1 ≤ length u → u ≡ word_text u
     full [] l = absurd (omega arith)
     full (x ∷ u) l = refl
 
-    go : (b : Bool) → bytes_eq text (codes "\\e") ≡ b → (if b then Some [] else if nat_le 1 (length text) && all_in A text then Some text else None) ≡ Some w → SpellsWord text A w
-    go true q e = subst (SpellsWord text A) (some_same [] w e) (record { text_is = same_bytes text (codes "\\e") q; each = λ x i. absurd i })
+    go : (b : Bool) → bytes_eq text (codes "\\e") ≡ b → (if b then Some [] else if nat_le 1 (length text) && all_plain text then Some text else None) ≡ Some w → SpellsWord text w
+    go true q e = subst (SpellsWord text) (some_same [] w e) (record { text_is = same_bytes text (codes "\\e") q; plain = λ x i. absurd i })
     go false q e =
-        let g = guarded (nat_le 1 (length text) && all_in A text) (Some text) w e in
-        let p = and_parts (nat_le 1 (length text)) (all_in A text) g.0 in
-        subst (SpellsWord text A) (some_same text w g.1) (record { text_is = full text (leb-true 1 (length text) p.0); each = all_each A text p.1 })
+        let g = guarded (nat_le 1 (length text) && all_plain text) (Some text) w e in
+        let p = and_parts (nat_le 1 (length text)) (all_plain text) g.0 in
+        subst (SpellsWord text) (some_same text w g.1) (record { text_is = full text (leb-true 1 (length text) p.0); plain = all_each text p.1 })
 
-word_complete : (A text w : List ℕ) → ((x : ℕ) → In x A → is_plain x ≡ true) → SpellsWord text A w → word_at A text ≡ Some w
-word_complete A text [] p s = ap (word_at A) s.text_is
-word_complete A text (x ∷ w) p s = ap (word_at A) s.text_is ∙ go (bytes_eq (x ∷ w) (codes "\\e")) refl
+word_complete : (text w : List ℕ) → SpellsWord text w → word_at text ≡ Some w
+word_complete text [] s = ap word_at s.text_is
+word_complete text (x ∷ w) s = ap word_at s.text_is ∙ go (bytes_eq (x ∷ w) (codes "\\e")) refl
   where
-    go : (b : Bool) → bytes_eq (x ∷ w) (codes "\\e") ≡ b → (if b then Some [] else if nat_le 1 (length (x ∷ w)) && all_in A (x ∷ w) then Some (x ∷ w) else None) ≡ Some (x ∷ w)
+    go : (b : Bool) → bytes_eq (x ∷ w) (codes "\\e") ≡ b → (if b then Some [] else if nat_le 1 (length (x ∷ w)) && all_plain (x ∷ w) then Some (x ∷ w) else None) ≡ Some (x ∷ w)
     go true q =
         let e : x ∷ w ≡ 92 ∷ 101 ∷ [] = same_bytes (x ∷ w) (codes "\\e") q in
         let h : x ≡ 92 = cc e in
-        let f : is_plain 92 ≡ true = ap is_plain (sym h) ∙ p x (s.each x (inl refl)) in
+        let f : is_plain 92 ≡ true = ap is_plain (sym h) ∙ s.plain x (inl refl) in
         absurd (cc f)
-    go false q = ap (λ b. if b then Some (x ∷ w) else None) (and_from (nat_le 1 (length (x ∷ w))) (all_in A (x ∷ w)) (le-leb 1 (length (x ∷ w)) (omega arith)) (each_all A (x ∷ w) s.each))
+    go false q = ap (λ b. if b then Some (x ∷ w) else None) (and_from (nat_le 1 (length (x ∷ w))) (all_plain (x ∷ w)) (le-leb 1 (length (x ∷ w)) (omega arith)) (each_all (x ∷ w) s.plain))
 
-pub input_complete : (file text A : List ℕ) (ls : List Line) (u : List ℕ) → IsInput file text A ls u → input_at file text ≡ Some (record { alphabet = A; lines = ls; word = u })
-input_complete file text A ls u i =
-    ap (λ z. input_of z text) i.file_spells.text
-    ∙ ap (λ o. with_head o (map line_text ls) text) (head_complete A i.file_spells.plain)
-    ∙ ap₂ (with_word A) (lines_complete A [] ls i.file_spells.each) (word_complete A text u i.file_spells.plain i.text_spells)
-
-pub input_sound : (file text : List ℕ) (i : Input) → input_at file text ≡ Some i → IsInput file text i.alphabet i.lines i.word
-input_sound file text i h = go (lines_of file) refl h
+pub word_refused : (text : List ℕ) → word_at text ≡ None → (w : List ℕ) → ¬ SpellsWord text w
+word_refused text e w s = none (sym e ∙ word_complete text w s)
   where
-    Good : Input → Type 0
-    Good i = IsInput file text i.alphabet i.lines i.word
+    none : None ≡ Some w → ⊥
+    none q = absurd (cc q)
 
-    last : (A first : List ℕ) (texts : List (List ℕ)) → lines_of file ≡ first ∷ texts → head_at first ≡ Some A → (ol : Option (List Line)) → lines_at A [] texts ≡ ol
-        → (ow : Option (List ℕ)) → word_at A text ≡ ow → with_word A ol ow ≡ Some i → Good i
-    last A first texts e h None p ow q g = absurd (cc g)
-    last A first texts e h (Some ls) p None q g = absurd (cc g)
-    last A first texts e h (Some ls) p (Some u) q g =
-        let a = head_sound first A h in
-        let b = lines_sound A [] texts ls p in
-        subst Good (some_same (record { alphabet = A; lines = ls; word = u }) i g)
-        (record { file_spells = record { text = e ∙ ap₂ (λ x y. x ∷ y) a.0 (b.texts_are ∙ ap (map line_text) (sym b.all)); plain = a.1; each = λ l j. b.each l (subst (λ z. In l z) b.all j) }; text_spells = word_sound A text u q })
-
-    head : (first : List ℕ) (texts : List (List ℕ)) → lines_of file ≡ first ∷ texts → (o : Option (List ℕ)) → head_at first ≡ o → with_head o texts text ≡ Some i → Good i
-    head first texts e None h g = absurd (cc g)
-    head first texts e (Some A) h g = last A first texts e h (lines_at A [] texts) refl (word_at A text) refl g
-
-    go : (ts : List (List ℕ)) → lines_of file ≡ ts → input_of ts text ≡ Some i → Good i
-    go [] e g = absurd (cc g)
-    go (first ∷ texts) e g = head first texts e (head_at first) refl g
-
--- what is not read is not spelled
-pub refused : (file text : List ℕ) → input_at file text ≡ None → (A : List ℕ) (ls : List Line) (u : List ℕ) → ¬ IsInput file text A ls u
-refused file text e A ls u i = none (record { alphabet = A; lines = ls; word = u }) (sym e ∙ input_complete file text A ls u i)
-  where
-    none : (i : Input) → None ≡ Some i → ⊥
-    none i q = absurd (cc q)
-
--- a file and a word text spell at most one input
-pub one_input : (file text A B : List ℕ) (ls ms : List Line) (u v : List ℕ) → IsInput file text A ls u → IsInput file text B ms v → (A ≡ B) × (ls ≡ ms) × (u ≡ v)
-one_input file text A B ls ms u v p q =
-    let e = some_same (record { alphabet = A; lines = ls; word = u }) (record { alphabet = B; lines = ms; word = v }) (sym (input_complete file text A ls u p) ∙ input_complete file text B ms v q) in
-    (ap (λ (i : Input). i.alphabet) e, ap (λ (i : Input). i.lines) e, ap (λ (i : Input). i.word) e)
+pub one_word : (text v w : List ℕ) → SpellsWord text v → SpellsWord text w → v ≡ w
+one_word text v w s t = some_same v w (sym (word_complete text v s) ∙ word_complete text w t)

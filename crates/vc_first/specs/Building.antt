@@ -1,19 +1,18 @@
--- How lines are added to an automaton that is being built.
-use Rattle.std.specs.Prelude.{◌≡◌, ◌≤◌, ◌<◌, ℕ, zero, suc, Bool, true, false, List, [], ◌∷◌, map, take, count_by, ⊤}
+-- How items are added to an automaton that is being built.
+use Rattle.std.specs.Prelude.{◌≡◌, ◌≤◌, ◌<◌, ℕ, zero, suc, Bool, true, false, IsTrue, List, [], ◌∷◌, take, length, count_by, Option, Some, ⊤}
 use Rattle.vc_aut.specs.Drafts.{Draft, with_state, with_initial, with_final, with_transition}
+use Rattle.vc_aut.specs.Sums.{standing}
 use Rattle.vc_label.specs.Alphabets.{has_letter}
 use Rattle.vc_label.specs.declared.alphabet.Alphabet.{Alphabet}
 use Rattle.vc_label.specs.declared.tape_set.TapeKind.TheVariants.{Letters}
 use Rattle.vc_label.specs.declared.tape_set.TapeSet.{TapeSet}
-use Rattle.vc_model.specs.Automata.{Transition}
-use Rattle.vc_model.specs.Lists.{In}
+use Rattle.vc_model.specs.Automata.{Transition, initial_weight, final_weight}
 use Rattle.vc_model.specs.WeightSet.{WeightSet}
-use Rattle.vc_ring.specs.declared.faults.MakeFault.{MakeFault}
-use Rattle.vc_ring.specs.declared.faults.MakeFault.TheVariants.{Overflow as Unfit, Limit, Memory}
-use Rattle.vc_ring.specs.declared.faults.Overflow.{Overflow}
-use Rattle.vc_ring.specs.declared.faults.Overflow.TheVariants.{Numeral, Add, Mul, Star}
-use Rattle.vc_first.specs.Automata.{names}
-use Rattle.vc_first.specs.Grammar.{Line, initial_at, final_at, moves}
+use Rattle.vc_first.specs.Additions.{IsPastRange, item_at}
+use Rattle.vc_first.specs.Automata.{names, transition_of, weight_of}
+use Rattle.vc_first.specs.Items.{Item, onto_initial, onto_final, onto_move, weight_text, IsSpelled}
+use Rattle.vc_first.specs.declared.faults.ItemsFault.{ItemsFault}
+use Rattle.vc_first.specs.declared.faults.ItemsFault.TheVariants.{Number, Sum, Memory}
 
 -- labels of one letter of the alphabet
 abbrev pub letter_sets : Alphabet → List TapeSet
@@ -23,66 +22,84 @@ letter_sets alphabet = record { kind = Letters; alphabet = alphabet } ∷ []
 abbrev pub AreLetters : List TapeSet → Type 0
 AreLetters sets = (alphabet : Alphabet) × (sets ≡ letter_sets alphabet)
 
--- the letters of the line's transitions are in the alphabet
-abbrev pub HasLetters : Alphabet → Line → Type 0
-HasLetters alphabet (initial_at n) = ⊤
-HasLetters alphabet (final_at n) = ⊤
-HasLetters alphabet (moves n m letters) = (x : ℕ) → In x letters → has_letter alphabet x ≡ true
+-- the letter of the item's transition is in the alphabet
+abbrev pub HasLetter : Alphabet → Item → Type 0
+HasLetter alphabet (onto_initial n w) = ⊤
+HasLetter alphabet (onto_final n w) = ⊤
+HasLetter alphabet (onto_move n m w x) = has_letter alphabet x ≡ true
 
 -- a draft with at most ten states, and with labels of one letter of the alphabet
 pub record IsSmall {V : Type 0} (alphabet : Alphabet) (d : Draft V) : Type 0 where
   pub most : d.most ≤ 10
   pub sets : d.sets ≡ letter_sets alphabet
 
--- the same bounds, labels and number of states
-pub record KeepsStates {V : Type 0} (old new : Draft V) : Type 0 where
-  pub most : new.most ≡ old.most
-  pub sets : new.sets ≡ old.sets
-  pub states : new.automaton.states ≡ old.automaton.states
-
 -- the number of a digit's state, from which digits are states: how many smaller ones are
 abbrev pub number_in : List Bool → ℕ → ℕ
 number_in named d = count_by (λ b. b) (take d named)
 
--- the digits of the line have numbers below n
-abbrev pub HasNumbers : (ℕ → ℕ) → ℕ → Line → Type 0
-HasNumbers number n line = (d : ℕ) → d < 10 → names d line ≡ true → number d < n
+-- the digits of the item have numbers below n
+abbrev pub HasNumbers : (ℕ → ℕ) → ℕ → Item → Type 0
+HasNumbers number n item = (d : ℕ) → d < 10 → names d item ≡ true → number d < n
 
-module _ {V : Type 0} (R : WeightSet V) where
-  -- so many states more
-  abbrev pub with_states : ℕ → Draft V → Draft V
-  with_states zero d = d
-  with_states (suc n) d = with_states n (with_state R d)
+-- the transition from one state to another with a letter
+abbrev pub letter_move : {V : Type 0} → ℕ → ℕ → ℕ → V → Transition V
+letter_move from x to w = record { from = from; label = (x ∷ []) ∷ []; to = to; weight = w }
 
-  -- the transitions, one after the other
-  abbrev pub with_transitions : Draft V → List (Transition V) → Draft V
-  with_transitions d [] = d
-  with_transitions d (t ∷ ts) = with_transitions (with_transition R d t) ts
+-- so many states more
+abbrev pub with_states : {V : Type 0} → WeightSet V → ℕ → Draft V → Draft V
+with_states R zero d = d
+with_states R (suc n) d = with_states R n (with_state R d)
 
-  -- the transition from one state to another with a letter, of weight one
-  abbrev pub letter_move : ℕ → ℕ → ℕ → Transition V
-  letter_move from to x = record { from = from; label = (x ∷ []) ∷ []; to = to; weight = R.one }
+-- what can be added to a draft: states that are there, a letter of the alphabet, and a weight
+pub record IsFitting (is_weight : List ℕ → Bool) (alphabet : Alphabet) (number : ℕ → ℕ) (n : ℕ) (item : Item) : Type 0 where
+  pub spelled : IsSpelled is_weight item
+  pub numbers : HasNumbers number n item
+  pub letter : HasLetter alphabet item
 
-  -- what a line adds, where number gives the number of a digit's state
-  abbrev pub with_line : (ℕ → ℕ) → Draft V → Line → Draft V
-  with_line number d (initial_at n) = with_initial R d (number n) R.one
-  with_line number d (final_at n) = with_final R d (number n) R.one
-  with_line number d (moves n m letters) = with_transitions d (map (letter_move (number n) (number m)) letters)
+-- the weight fits onto what stands, if anything does
+abbrev pub FitsOnto : {V : Type 0} → WeightSet V → Option V → V → Type 0
+FitsOnto {V} R o w = (v : V) → o ≡ Some v → R.fits_plus v w ≡ true
 
-  -- what lines add, one after the other
-  abbrev pub with_lines : (ℕ → ℕ) → Draft V → List Line → Draft V
-  with_lines number d [] = d
-  with_lines number d (l ∷ ls) = with_lines number (with_line number d l) ls
+-- why the weight is not added: it does not fit onto what stands
+abbrev pub IsSumFault : {V : Type 0} → WeightSet V → Option V → V → ItemsFault V → Type 0
+IsSumFault R o w Number = ⊥
+IsSumFault R o w (Sum a b) = (o ≡ Some a) × (b ≡ w) × (R.fits_plus a b ≡ false)
+IsSumFault R o w (Memory e) = ⊤
 
-  -- the step is a sum that does not fit
-  abbrev pub IsUnfitSum : Overflow V → Type 0
-  IsUnfitSum (Add a b) = R.fits_plus a b ≡ false
-  IsUnfitSum (Mul a b) = ⊥
-  IsUnfitSum (Star a) = ⊥
-  IsUnfitSum (Numeral at) = ⊥
+module _ {V : Type 0} (R : WeightSet V) (spelled : List ℕ → Option V) where
+  -- what an item adds, where number gives the number of a digit's state
+  abbrev pub with_item : (ℕ → ℕ) → Draft V → Item → Draft V
+  with_item number d (onto_initial n w) = with_initial R d (number n) (weight_of R spelled w)
+  with_item number d (onto_final n w) = with_final R d (number n) (weight_of R spelled w)
+  with_item number d (onto_move n m w x) = with_transition R d (transition_of R spelled number n m w x)
 
-  -- why reading does not make an automaton: a sum does not fit, or there is no memory; no limit is passed
-  abbrev pub IsReadFault : MakeFault V → Type 0
-  IsReadFault (Unfit step) = IsUnfitSum step
-  IsReadFault (Limit l) = ⊥
-  IsReadFault (Memory e) = ⊤
+  -- what items add, one after the other
+  abbrev pub with_items : (ℕ → ℕ) → Draft V → List Item → Draft V
+  with_items number d [] = d
+  with_items number d (i ∷ is) = with_items number (with_item number d i) is
+
+  -- the weight that stands where the item adds its own, none where there is no such transition
+  abbrev pub standing_weight : (ℕ → ℕ) → Draft V → Item → Option V
+  standing_weight number d (onto_initial n w) = Some (initial_weight R d.automaton (number n))
+  standing_weight number d (onto_final n w) = Some (final_weight R d.automaton (number n))
+  standing_weight number d (onto_move n m w x) = standing d.automaton.transitions (transition_of R spelled number n m w x)
+
+  -- the weight of the item is no number past its range, is a value, and fits onto what stands there
+  pub record IsAddable (numbers_fit : List ℕ → Bool) (number : ℕ → ℕ) (d : Draft V) (item : Item) : Type 0 where
+    pub number_fits : ¬ IsPastRange numbers_fit (weight_text item)
+    pub weight_in : IsTrue (R.in_range (weight_of R spelled (weight_text item)))
+    pub sum_fits : FitsOnto R (standing_weight number d item) (weight_of R spelled (weight_text item))
+
+  -- why the item is not added to the draft
+  abbrev pub IsItemFault : (List ℕ → Bool) → (ℕ → ℕ) → Draft V → Item → ItemsFault V → Type 0
+  IsItemFault numbers_fit number d item Number = IsPastRange numbers_fit (weight_text item)
+  IsItemFault numbers_fit number d item (Sum a b) = IsSumFault R (standing_weight number d item) (weight_of R spelled (weight_text item)) (Sum a b)
+  IsItemFault numbers_fit number d item (Memory e) = ⊤
+
+  -- the draft to which the item at a place is added
+  abbrev pub draft_at : (ℕ → ℕ) → Draft V → List Item → ℕ → Draft V
+  draft_at number d items k = with_items number d (take k items)
+
+  -- why items are not added to the draft: one of them is not
+  abbrev pub IsAddFault : (List ℕ → Bool) → (ℕ → ℕ) → Draft V → List Item → ItemsFault V → Type 0
+  IsAddFault numbers_fit number d items fault = (k : ℕ) × (k < length items) × IsItemFault numbers_fit number (draft_at number d items k) (item_at items k) fault

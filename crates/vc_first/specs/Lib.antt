@@ -1,7 +1,8 @@
 pub mod Grammar
+pub mod Items
+pub mod Automata
+pub mod Additions
 pub mod Reading
 pub mod View
 pub mod Views
-pub mod Automata
-pub mod Digits
 pub mod Building

@@ -1,24 +1,81 @@
-ghost use Rattle.std.specs.Prelude.{◌≡◌, ◌<◌, ◌≤◌, ◌+◌, ℕ, List, [], ◌∷◌, map, true, IfErr, OnOk};
-ghost use Rattle.vc_aut.specs.Drafts.{with_transition, with_initial, with_final};
-ghost use Rattle.vc_first.specs.Building.{HasLetters, HasNumbers, IsSmall, KeepsStates, IsReadFault, number_in, letter_move, with_transitions, with_line, with_lines, with_states};
-ghost use Rattle.vc_first.specs.Digits.{HasDigits, IsDigits};
-ghost use Rattle.vc_first.specs.Grammar as grammar;
-ghost use Rattle.vc_first.specs.Reading.{thirds};
-ghost use Rattle.vc_first.specs.View.{view};
+ghost use Rattle.std.specs.Prelude.{◌≡◌, ◌<◌, ◌≤◌, ◌+◌, ℕ, IsTrue, map, true, Some, MatchOption, IfErr, OnOk, length};
+ghost use Rattle.vc_aut.specs.Drafts.{with_initial, with_final, with_transition};
+ghost use Rattle.vc_aut.specs.Sums.{standing};
+ghost use Rattle.vc_first.specs.Additions.{IsPastRange, item_at};
+ghost use Rattle.vc_first.specs.Automata.{weight_of};
+ghost use Rattle.vc_first.specs.Building.{IsFitting, IsSmall, FitsOnto, IsSumFault, letter_move, IsAddable, IsItemFault, IsAddFault, draft_at, number_in, with_item, with_items, with_states};
+ghost use Rattle.vc_first.specs.Items as said;
+ghost use Rattle.vc_first.specs.Items.{HasWeight};
+ghost use Rattle.vc_first.specs.Reading.{is_spelled};
+ghost use Rattle.vc_first.specs.View.{view, text_of};
 ghost use Rattle.vc_label.specs.Alphabets.{has_letter};
+ghost use Rattle.vc_model.specs.Automata.{initial_weight, final_weight};
 ghost use Rattle.vc_model.specs.Lists.{In};
 
 use crate::alphabet::label_of;
-use crate::entries::next_entry;
-use crate::line::Line;
+use crate::faults::ItemsFault;
+use crate::item::Item;
 use crate::states::number;
-use std::alloc::Global;
+use std::alloc::{AllocError, Global};
 use vc_atoms::Letters;
 use vc_aut::{Builder, drafts_are_valid};
 use vc_label::Alphabet;
-use vc_ring::{MakeFault, Semiring};
+use vc_ring::{MakeFault, NumberFault, Overflow, Semiring};
 
-/// Adds a transition with a letter of the alphabet and the weight one.
+/// The weight of a text, one where there is none. None where a number is past its range.
+fn weight_of<S: Semiring>(text: Option<&[u8]>) -> Option<S::Value>
+    requires { HasWeight (is_spelled S.spelled) (text_of text) }
+    ensures { MatchOption result (IsPastRange S.numbers_fit (text_of text.entry)) (λ v. (v ≡ weight_of S.set S.spelled (text_of text.entry)) × IsTrue (S.set.in_range v) × ¬ IsPastRange S.numbers_fit (text_of text.entry)) }
+{
+    let Some(digits) = text else {
+        return Some(S::one());
+    };
+    match S::read(digits) {
+        Ok(weight) => Some(weight),
+        Err(NumberFault::Overflow) => None,
+        Err(NumberFault::Bad) => unreachable!(),
+    }
+}
+
+/// Adds a weight to the initial weight of a state.
+fn add_initial<S: Semiring>(
+    builder: &mut Builder<Letters, S>,
+    state: u32,
+    weight: S::Value,
+) -> Result<(), ItemsFault<S::Value>>
+    requires state { state < builder.old.automaton.states }
+    requires weight { IsTrue (S.set.in_range weight) }
+    ensures ok { OnOk result (builder.new ≡ with_initial S.set builder.old state weight) }
+    ensures fits { OnOk result (FitsOnto S.set (Some (initial_weight S.set builder.old.automaton state)) weight) }
+    ensures err { IfErr result (IsSumFault S.set (Some (initial_weight S.set builder.old.automaton state)) weight) }
+{
+    match builder.add_initial(state, weight) {
+        Ok(()) => Ok(()),
+        Err(Overflow::Add { left, right }) => Err(ItemsFault::Sum { left, right }),
+        Err(_) => unreachable!(),
+    }
+}
+
+/// Adds a weight to the final weight of a state.
+fn add_final<S: Semiring>(
+    builder: &mut Builder<Letters, S>,
+    state: u32,
+    weight: S::Value,
+) -> Result<(), ItemsFault<S::Value>>
+    requires state { state < builder.old.automaton.states }
+    requires weight { IsTrue (S.set.in_range weight) }
+    ensures ok { OnOk result (builder.new ≡ with_final S.set builder.old state weight) }
+    ensures fits { OnOk result (FitsOnto S.set (Some (final_weight S.set builder.old.automaton state)) weight) }
+    ensures err { IfErr result (IsSumFault S.set (Some (final_weight S.set builder.old.automaton state)) weight) }
+{
+    match builder.add_final(state, weight) {
+        Ok(()) => Ok(()),
+        Err(Overflow::Add { left, right }) => Err(ItemsFault::Sum { left, right }),
+        Err(_) => unreachable!(),
+    }
+}
+
+/// Adds a transition with a letter of the alphabet.
 fn add_move<S: Semiring>(
     alloc: Global,
     builder: &mut Builder<Letters, S>,
@@ -26,140 +83,105 @@ fn add_move<S: Semiring>(
     from: u32,
     letter: u8,
     to: u32,
-) -> Result<(), MakeFault<S::Value>>
+    weight: S::Value,
+) -> Result<(), ItemsFault<S::Value>>
     requires small { IsSmall alphabet builder.old }
     requires letter { has_letter alphabet letter ≡ true }
     requires from { from < builder.old.automaton.states }
     requires to { to < builder.old.automaton.states }
-    ensures ok { OnOk result (builder.new ≡ with_transition S.set builder.old (letter_move S.set from to letter)) }
-    ensures err { IfErr result (IsReadFault S.set) }
+    requires weight { IsTrue (S.set.in_range weight) }
+    ensures ok { OnOk result (builder.new ≡ with_transition S.set builder.old (letter_move from letter to weight)) }
+    ensures fits { OnOk result (FitsOnto S.set (standing builder.old.automaton.transitions (letter_move from letter to weight)) weight) }
+    ensures err { IfErr result (IsSumFault S.set (standing builder.old.automaton.transitions (letter_move from letter to weight)) weight) }
 {
     drafts_are_valid(builder);
     let label = match label_of(alloc, alphabet, letter) {
         Ok(label) => label,
-        Err(e) => return Err(MakeFault::Memory(e)),
+        Err(e) => return Err(ItemsFault::Memory(e)),
     };
-    builder.add_transition(from, label, to, S::one())
-}
-
-/// Adds the transitions of a line, one for each letter of its entries.
-fn add_moves<S: Semiring>(
-    alloc: Global,
-    builder: &mut Builder<Letters, S>,
-    alphabet: Alphabet,
-    from: u32,
-    entries: &[u8],
-    to: u32,
-) -> Result<(), MakeFault<S::Value>>
-    requires small { IsSmall alphabet builder.old }
-    requires letters { (x : ℕ) → In x (thirds entries.now) → has_letter alphabet x ≡ true }
-    requires from { from < builder.old.automaton.states }
-    requires to { to < builder.old.automaton.states }
-    ensures ok { OnOk result (builder.new ≡ with_transitions S.set builder.old (map (letter_move S.set from to) (thirds entries.now))) }
-    ensures kept { OnOk result (KeepsStates builder.old builder.new) }
-    ensures err { IfErr result (IsReadFault S.set) }
-{
-    let mut rest = entries;
-    while let Some((letter, after)) = next_entry(rest) {
-        add_move(alloc, builder, alphabet, from, letter, to)?;
-        rest = after;
+    match builder.add_transition(from, label, to, weight) {
+        Ok(()) => Ok(()),
+        Err(MakeFault::Overflow(Overflow::Add { left, right })) => {
+            Err(ItemsFault::Sum { left, right })
+        }
+        Err(MakeFault::Overflow(_)) => unreachable!(),
+        Err(MakeFault::Limit(_)) => unreachable!(),
+        Err(MakeFault::Memory(e)) => Err(ItemsFault::Memory(e)),
     }
-    Ok(())
 }
 
-/// Adds what a line says, where `named` tells which digits are states.
-fn add_line<S: Semiring>(
+/// Adds what an item says, where `named` tells which digits are states.
+fn add_item<S: Semiring>(
     alloc: Global,
     builder: &mut Builder<Letters, S>,
     alphabet: Alphabet,
     named: &[bool; 10],
-    line: &Line<'_>,
-) -> Result<(), MakeFault<S::Value>>
+    item: &Item<'_>,
+) -> Result<(), ItemsFault<S::Value>>
     requires small { IsSmall alphabet builder.old }
-    requires digits { HasDigits (view line.now) }
-    requires numbers { HasNumbers (number_in named.now) builder.old.automaton.states (view line.now) }
-    requires letters { HasLetters alphabet (view line.now) }
-    ensures ok { OnOk result (builder.new ≡ with_line S.set (number_in named.now) builder.old (view line.now)) }
-    ensures kept { OnOk result (KeepsStates builder.old builder.new) }
-    ensures err { IfErr result (IsReadFault S.set) }
+    requires fitting { IsFitting (is_spelled S.spelled) alphabet (number_in named.now) builder.old.automaton.states (view item.now) }
+    ensures ok { OnOk result (builder.new ≡ with_item S.set S.spelled (number_in named.now) builder.old (view item.now)) }
+    ensures added { OnOk result (IsAddable S.set S.spelled S.numbers_fit (number_in named.now) builder.old (view item.now)) }
+    ensures err { IfErr result (IsItemFault S.set S.spelled S.numbers_fit (number_in named.now) builder.old (view item.now)) }
 {
-    match line {
-        Line::Initial(n) => add_initial(builder, number(named, *n)),
-        Line::Final(n) => add_final(builder, number(named, *n)),
-        Line::Moves(n, m, entries) => add_moves(
+    let Some(weight) = weight_of::<S>(item.weight()) else {
+        return Err(ItemsFault::Number);
+    };
+    match item {
+        Item::Initial { state, .. } => add_initial(builder, number(named, *state), weight),
+        Item::Final { state, .. } => add_final(builder, number(named, *state), weight),
+        Item::Move {
+            from,
+            to,
+            letter,
+            ..
+        } => add_move(
             alloc,
             builder,
             alphabet,
-            number(named, *n),
-            entries,
-            number(named, *m),
+            number(named, *from),
+            *letter,
+            number(named, *to),
+            weight,
         ),
     }
 }
 
-/// Adds one to the initial weight of a state.
-fn add_initial<S: Semiring>(
-    builder: &mut Builder<Letters, S>,
-    state: u32,
-) -> Result<(), MakeFault<S::Value>>
-    requires { state < builder.old.automaton.states }
-    ensures ok { OnOk result (builder.new ≡ with_initial S.set builder.old state S.set.one) }
-    ensures err { IfErr result (IsReadFault S.set) }
-{
-    match builder.add_initial(state, S::one()) {
-        Ok(()) => Ok(()),
-        Err(step) => Err(MakeFault::Overflow(step)),
-    }
-}
-
-/// Adds one to the final weight of a state.
-fn add_final<S: Semiring>(
-    builder: &mut Builder<Letters, S>,
-    state: u32,
-) -> Result<(), MakeFault<S::Value>>
-    requires { state < builder.old.automaton.states }
-    ensures ok { OnOk result (builder.new ≡ with_final S.set builder.old state S.set.one) }
-    ensures err { IfErr result (IsReadFault S.set) }
-{
-    match builder.add_final(state, S::one()) {
-        Ok(()) => Ok(()),
-        Err(step) => Err(MakeFault::Overflow(step)),
-    }
-}
-
-/// Adds what the lines say, one after the other.
-pub(crate) fn add_lines<S: Semiring>(
+/// Adds what the items say, one after the other.
+pub(crate) fn add_items<S: Semiring>(
     alloc: Global,
     builder: &mut Builder<Letters, S>,
     alphabet: Alphabet,
     named: &[bool; 10],
-    lines: &[Line<'_>],
-) -> Result<(), MakeFault<S::Value>>
+    items: &[Item<'_>],
+) -> Result<(), ItemsFault<S::Value>>
     requires small { IsSmall alphabet builder.old }
-    requires digits { IsDigits (map view lines.now) }
-    requires numbers { (l : grammar.Line) → In l (map view lines.now) → HasNumbers (number_in named.now) builder.old.automaton.states l }
-    requires letters { (l : grammar.Line) → In l (map view lines.now) → HasLetters alphabet l }
-    ensures ok { OnOk result (builder.new ≡ with_lines S.set (number_in named.now) builder.old (map view lines.now)) }
-    ensures err { IfErr result (IsReadFault S.set) }
+    requires fitting { (i : said.Item) → In i (map view items.now) → IsFitting (is_spelled S.spelled) alphabet (number_in named.now) builder.old.automaton.states i }
+    ensures ok { OnOk result (builder.new ≡ with_items S.set S.spelled (number_in named.now) builder.old (map view items.now)) }
+    ensures added { OnOk result ((k : ℕ) → k < length items.now → IsAddable S.set S.spelled S.numbers_fit (number_in named.now) (draft_at S.set S.spelled (number_in named.now) builder.old (map view items.now) k) (item_at (map view items.now) k)) }
+    ensures err { IfErr result (IsAddFault S.set S.spelled S.numbers_fit (number_in named.now) builder.old (map view items.now)) }
 {
-    for line in lines {
-        add_line(alloc, builder, alphabet, named, line)?;
+    for item in items {
+        if let Err(fault) = add_item(alloc, builder, alphabet, named, item) {
+            return Err(fault);
+        }
     }
     Ok(())
 }
 
-/// Adds so many states.
+/// Adds so many states. It refuses for memory alone.
 pub(crate) fn add_states<S: Semiring>(
     builder: &mut Builder<Letters, S>,
     count: u32,
-) -> Result<(), MakeFault<S::Value>>
+) -> Result<(), AllocError>
     requires { builder.old.automaton.states + count ≤ builder.old.most }
     ensures ok { OnOk result (builder.new ≡ with_states S.set count builder.old) }
-    ensures err { IfErr result (IsReadFault S.set) }
 {
     for _ in 0..count {
-        if let Err(fault) = builder.add_state() {
-            return Err(fault);
+        match builder.add_state() {
+            Ok(_) => {}
+            Err(MakeFault::Memory(e)) => return Err(e),
+            Err(_) => unreachable!(),
         }
     }
     Ok(())

@@ -1,30 +1,23 @@
-ghost use Rattle.std.specs.Prelude.{◌≡◌, List, ℕ, None, Some, length};
+ghost use Rattle.std.specs.Prelude.{◌≡◌, ℕ, Bool, List, Option};
 ghost use Rattle.vc_first.specs.Automata.{IsAutomatonOf};
-ghost use Rattle.vc_first.specs.Grammar.{Line, IsLine, IsInput};
-ghost use Rattle.vc_first.specs.Reading.{Input, input_at};
-ghost use Rattle.vc_model.specs.Automata.{Automaton, IsAutomaton, coefficient};
-ghost use Rattle.vc_model.specs.Lists.{In};
+ghost use Rattle.vc_first.specs.Grammar.{AreLines, HasHead, Head, Line, SpellsWord};
+ghost use Rattle.vc_first.specs.Items.{Item, AreSpelled, items_of};
+ghost use Rattle.vc_model.specs.Automata.{Automaton};
 ghost use Rattle.vc_model.specs.WeightSet.{WeightSet, SemiringLaws};
-ghost use Rattle.vc_model.specs.Words.{Word};
 
-/// What the reader answers is what is spelled, and a file and a word text spell at most one input.
-pub fn inputs_are_read()
-    ensures sound { (file text : List ℕ) (i : Input) → input_at file text ≡ Some i
-        → IsInput file text i.alphabet i.lines i.word }
-    ensures refused { (file text : List ℕ) → input_at file text ≡ None
-        → (alphabet : List ℕ) (lines : List Line) (word : List ℕ) → ¬ IsInput file text alphabet lines word }
-    ensures one { (file text A B : List ℕ) (lines others : List Line) (word other : List ℕ)
-        → IsInput file text A lines word → IsInput file text B others other
-        → (A ≡ B) × (lines ≡ others) × (word ≡ other) }
+/// Texts spell at most one thing: bytes have at most one head, texts are at most one list of lines, and a word text spells at
+/// most one word. The states of what lines say are digits, and their weights spell elements.
+pub fn texts_spell_one_thing()
+    ensures head { (bytes : List ℕ) (h k : Head) → HasHead bytes h → HasHead bytes k → h ≡ k }
+    ensures lines { (is_weight : List ℕ → Bool) (texts : List (List ℕ)) (ls ms : List Line)
+        → AreLines is_weight texts ls → AreLines is_weight texts ms → ls ≡ ms }
+    ensures word { (text v w : List ℕ) → SpellsWord text v → SpellsWord text w → v ≡ w }
+    ensures items { (is_weight : List ℕ → Bool) (texts : List (List ℕ)) (ls : List Line)
+        → AreLines is_weight texts ls → AreSpelled is_weight (items_of ls) }
 {}
 
-/// Lines over an alphabet make an automaton of one tape, and any two that they make have the same series.
-pub fn lines_have_one_series<V>()
-    ensures automaton { (R : WeightSet V) → SemiringLaws R → (alphabet : List ℕ) (lines : List Line)
-        → ((l : Line) → In l lines → IsLine alphabet l)
-        → (A : Automaton V) → IsAutomatonOf R lines A → IsAutomaton R 1 A }
-    ensures series { (R : WeightSet V) → SemiringLaws R → (alphabet : List ℕ) (lines : List Line)
-        → ((l : Line) → In l lines → IsLine alphabet l)
-        → (A B : Automaton V) → IsAutomatonOf R lines A → IsAutomatonOf R lines B
-        → (w : Word) → length w ≡ 1 → coefficient R B w ≡ coefficient R A w }
+/// Items make at most one automaton.
+pub fn items_have_one_automaton<V>()
+    ensures { (R : WeightSet V) → SemiringLaws R → (spelled : List ℕ → Option V) (items : List Item)
+        (A B : Automaton V) → IsAutomatonOf R spelled items A → IsAutomatonOf R spelled items B → A ≡ B }
 {}

@@ -4,13 +4,19 @@
 mod alphabet;
 mod automaton;
 mod build;
-mod entries;
+mod faults;
+mod head;
+mod item;
 mod law;
-mod line;
-mod reader;
+mod lines;
 mod states;
+mod word;
 
+pub use alphabet::{are_over, is_over};
 pub use automaton::automaton_of;
-pub use law::{inputs_are_read, lines_have_one_series};
-pub use line::Line;
-pub use reader::{Input, read_input};
+pub use faults::ItemsFault;
+pub use head::{Head, read_head};
+pub use item::Item;
+pub use law::{items_have_one_automaton, texts_spell_one_thing};
+pub use lines::read_items;
+pub use word::read_word;

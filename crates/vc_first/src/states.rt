@@ -1,35 +1,35 @@
 ghost use Rattle.std.specs.Prelude.{◌≡◌, ◌<◌, ◌||◌, ℕ, map, false, slice_index_or, length, count_by, take};
-ghost use Rattle.vc_first.specs.Automata.{names, is_state, number_of};
+ghost use Rattle.vc_first.specs.Automata.{names, is_state};
+ghost use Rattle.vc_first.specs.Items.{HasDigits, AreDigits};
 ghost use Rattle.vc_first.specs.View.{view};
-ghost use Rattle.vc_first.specs.Digits.{HasDigits, IsDigits};
 
-use crate::line::Line;
+use crate::item::Item;
 
-/// Marks the digits that a line names as states.
-fn mark(named: &mut [bool; 10], line: &Line<'_>)
-    requires { HasDigits (view line.now) }
+/// Marks the digits that an item names as states.
+fn mark(named: &mut [bool; 10], item: &Item<'_>)
+    requires { HasDigits (view item.now) }
     ensures size { length named.new ≡ length named.old }
-    ensures marks { (d : ℕ) → d < 10 → slice_index_or named.new d false ≡ (slice_index_or named.old d false || names d (view line.now)) }
+    ensures marks { (d : ℕ) → d < 10 → slice_index_or named.new d false ≡ (slice_index_or named.old d false || names d (view item.now)) }
 {
-    match line {
-        Line::Initial(n) => named[*n as usize] = true,
-        Line::Final(n) => named[*n as usize] = true,
-        Line::Moves(n, m, _) => {
-            named[*n as usize] = true;
-            named[*m as usize] = true;
+    match item {
+        Item::Initial { state, .. } => named[*state as usize] = true,
+        Item::Final { state, .. } => named[*state as usize] = true,
+        Item::Move { from, to, .. } => {
+            named[*from as usize] = true;
+            named[*to as usize] = true;
         }
     }
 }
 
-/// For each digit whether a line names it as a state.
-pub(crate) fn named_digits(lines: &[Line<'_>]) -> [bool; 10]
-    requires { IsDigits (map view lines.now) }
+/// For each digit whether an item names it as a state.
+pub(crate) fn named_digits(items: &[Item<'_>]) -> [bool; 10]
+    requires { AreDigits (map view items.now) }
     ensures size { length result ≡ 10 }
-    ensures marked { (d : ℕ) → d < 10 → slice_index_or result d false ≡ is_state (map view lines.now) d }
+    ensures marked { (d : ℕ) → d < 10 → slice_index_or result d false ≡ is_state (map view items.now) d }
 {
     let mut named = [false; 10];
-    for line in lines {
-        mark(&mut named, line);
+    for item in items {
+        mark(&mut named, item);
     }
     named
 }

@@ -1,3 +1,4 @@
-pub mod Steps
 pub mod Inputs
 pub mod Determined
+pub mod Evaluated
+pub mod Printed

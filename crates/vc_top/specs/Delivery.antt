@@ -5,7 +5,7 @@ use Rattle.vc_files.specs.Files.{Bytes}
 use Rattle.vc_files.specs.Sink.{Rose, AppendsFront}
 use Rattle.vc_top.specs.declared.status.Status.{Status}
 use Rattle.vc_top.specs.declared.status.Status.TheVariants as status
-use Rattle.vc_top.specs.Answers.{Answer}
+use Rattle.vc_top.specs.Refusals.{Answer}
 
 -- a text is printed whole, or a front of it at a fault of the sink; a refusal prints nothing
 abbrev pub Delivers : Answer → Status → Option Bytes → Option Bytes → ℕ → ℕ → Type 0

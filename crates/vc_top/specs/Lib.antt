@@ -1,7 +1,8 @@
 pub mod Statuses
-pub mod Words
-pub mod Requests
+pub mod Refusals
 pub mod Seen
+pub mod Sets
+pub mod Contexts
 pub mod Evaluations
 pub mod Answers
 pub mod Delivery

@@ -2,7 +2,7 @@
 use Rattle.std.specs.Prelude.{ℕ, Result, Ok, Err, String, string_bytes}
 use Rattle.std.specs.Global.{Vec, Global}
 use Rattle.vc_top.specs.declared.status.Status.{Status}
-use Rattle.vc_top.specs.Answers.{Answer}
+use Rattle.vc_top.specs.Refusals.{Answer}
 
 -- the bytes that were loaded, or the status
 abbrev pub loaded_of : Result (Vec ℕ) Status → Answer

@@ -1,9 +1,9 @@
 //! The top call: words, files and sinks in, a status out.
 #![tactic(auto)]
 
-mod answer;
+mod context;
+mod evaluation;
 mod law;
-mod request;
 mod status;
 mod top;
 

@@ -11,6 +11,12 @@ const CONTAINS_AB: &str =
 const GAPS: &str =
     "context = \"lal_char(a_Z9), b\"\n$ -> 7\n7 -> 3 a, a, _\n3 -> 7 Z\n3 -> $\n3 -> $\n$ -> 7\n";
 
+const BINARY_VALUE: &str =
+    "context = \"lal_char(ab), z\"\n$ -> 0\n0 -> 0 a, b\n0 -> 1 b\n1 -> 1 <2>a, <2>b\n1 -> $";
+
+const GREATEST_COST: &str =
+    "context = \"lal_char(ab), nmin\"\n$ -> 0 <340282366920938463463374607431768211455>\n0 -> 1 <1>a\n0 -> 1 <oo>b\n0 -> $\n1 -> $";
+
 fn file(alloc: Global, name: &str, bytes: &str) -> Result<MemFile, AllocError> {
     Ok(MemFile {
         name: String::from_str(alloc, name)?,
@@ -33,8 +39,31 @@ fn held(alloc: Global, failing: Vec<u64>) -> Result<MemFiles, AllocError> {
             "context = \"lal_char(ab), b\"\n$ -> 0\n0 -> 0 a, b\n0 -> 1\n",
         ),
         ("cut_off", "context = \"lal_char(ab), b\"\n$ -> 0\n0 -> "),
-        ("other_weights", "context = \"lal_char(ab), z\"\n$ -> 0\n"),
-        ("weight", "context = \"lal_char(ab), b\"\n$ -> 0 <1>\n"),
+        ("binary_value", BINARY_VALUE),
+        ("greatest_cost", GREATEST_COST),
+        (
+            "halves",
+            "context = \"lal_char(ab), q\"\n$ -> 0\n0 -> 0 <1/2>a, <-2/4>b\n0 -> $ <6/3>\n",
+        ),
+        (
+            "residues",
+            "context = \"lal_char(ab), f2\"\n$ -> 0 <1>\n0 -> 1 a, a, <1>b\n1 -> $\n",
+        ),
+        (
+            "past_range",
+            "context = \"lal_char(a), z\"\n$ -> 0 <170141183460469231731687303715884105728>\n",
+        ),
+        (
+            "sum_past_range",
+            "context = \"lal_char(a), z\"\n0 -> $ <170141183460469231731687303715884105727>\n0 -> $\n",
+        ),
+        ("other_weights", "context = \"lal_char(ab), r\"\n$ -> 0\n"),
+        ("weight_of_z", "context = \"lal_char(ab), b\"\n$ -> 0 <2>\n"),
+        ("open_weight", "context = \"lal_char(ab), z\"\n0 -> 0 <2a\n"),
+        (
+            "blank_in_entry",
+            "context = \"lal_char(ab), z\"\n0 -> 0 <2> a\n",
+        ),
         (
             "foreign_letter",
             "context = \"lal_char(ab), b\"\n0 -> 1 c\n",
@@ -72,7 +101,7 @@ fn words_are_evaluated(rt: HostRuntime) -> Result<(), Fail> {
         ("contains_ab", "aab", 0u8, "1\n"),
         ("contains_ab", "ba", 0, "0\n"),
         ("contains_ab", "\\e", 0, "0\n"),
-        ("contains_ab", "ac", 5, ""),
+        ("contains_ab", "ac", 6, ""),
         ("contains_ab", "a||", 5, ""),
         ("contains_ab", "", 5, ""),
         ("gaps", "a", 0, "1\n"),
@@ -84,8 +113,27 @@ fn words_are_evaluated(rt: HostRuntime) -> Result<(), Fail> {
         ("no_entries", "a", 5, ""),
         ("cut_off", "a", 5, ""),
         ("other_weights", "a", 5, ""),
-        ("weight", "a", 5, ""),
-        ("foreign_letter", "a", 5, ""),
+        ("binary_value", "bab", 0, "5\n"),
+        ("binary_value", "a", 0, "0\n"),
+        (
+            "greatest_cost",
+            "\\e",
+            0,
+            "340282366920938463463374607431768211455\n",
+        ),
+        ("greatest_cost", "a", 9, ""),
+        ("greatest_cost", "b", 0, "oo\n"),
+        ("halves", "aa", 0, "1/2\n"),
+        ("halves", "ab", 0, "-1/2\n"),
+        ("residues", "a", 0, "0\n"),
+        ("residues", "b", 0, "1\n"),
+        ("past_range", "a", 9, ""),
+        ("sum_past_range", "a", 9, ""),
+        ("sum_past_range", "%", 9, ""),
+        ("weight_of_z", "a", 5, ""),
+        ("open_weight", "a", 5, ""),
+        ("blank_in_entry", "a", 5, ""),
+        ("foreign_letter", "%", 6, ""),
         ("blank_line", "a", 5, ""),
         ("empty", "a", 5, ""),
         ("not_held", "a", 3, ""),
@@ -94,7 +142,7 @@ fn words_are_evaluated(rt: HostRuntime) -> Result<(), Fail> {
         ("-contains_ab", "ab", 2, ""),
     ] {
         let mut files = held(alloc, Vec::new(alloc))?;
-        let (status, out) = answer(alloc, &["eval", name, word], &mut files, 16)?;
+        let (status, out) = answer(alloc, &["eval", name, word], &mut files, 64)?;
         assert_eq!(rt; status.code(), code, "{name} {word}");
         assert_eq!(rt; out.written(), printed.as_bytes(), "{name} {word}");
     }
@@ -117,6 +165,27 @@ fn other_words_and_faults_are_refused(rt: HostRuntime) -> Result<(), Fail> {
     let (status, out) = answer(alloc, &["eval", "contains_ab", "ab"], &mut files, 1)?;
     assert_eq!(rt; status, Status::WriteFault);
     assert_eq!(rt; out.written(), "1".as_bytes());
+    Ok(())
+}
+
+#[test]
+fn contexts_are_printed(rt: HostRuntime) -> Result<(), Fail> {
+    let alloc = rt.alloc();
+    let mut files = held(alloc, Vec::new(alloc))?;
+    for (text, code, printed) in [
+        (
+            "[ab]? x [x-z]* -> nmin",
+            0u8,
+            "lat<lan_char(ab), law_char(xyz)>, nmin\n",
+        ),
+        ("letterset<char_letters(ba)>, q", 0, "lal_char(ab), q\n"),
+        ("lal_char(ab)", 5, ""),
+        ("-lal_char(ab), b", 2, ""),
+    ] {
+        let (status, out) = answer(alloc, &["context", text], &mut files, 64)?;
+        assert_eq!(rt; status.code(), code, "{text}");
+        assert_eq!(rt; out.written(), printed.as_bytes(), "{text}");
+    }
     Ok(())
 }
 

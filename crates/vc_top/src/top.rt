@@ -1,19 +1,20 @@
-ghost use Rattle.std.specs.Prelude.{◌≡◌, ◌≢◌, ◌↔◌, ◌∷◌, [], map, None, Ok, Err, string_bytes};
-ghost use Rattle.std.specs.Option.{option_map};
+ghost use Rattle.std.specs.Prelude.{◌≡◌, ◌≢◌, ◌⊎◌, ◌∷◌, [], map, Some, Ok, Err, string_bytes};
 ghost use Rattle.std.specs.Io.KnownBytes.{Appends};
+ghost use Rattle.vc_command.specs.Requests.{request_of};
+ghost use Rattle.vc_command.specs.Views.{asked};
 ghost use Rattle.vc_files.specs.Files.{Bytes, Grows, Added};
 ghost use Rattle.vc_files.specs.Sink.{Rose, AppendsFront};
-ghost use Rattle.vc_top.specs.Answers.{Answer, Allows, AllowsEvalFile, Loads};
+ghost use Rattle.vc_top.specs.Answers.{Allows, AllowsEvalFile, IsUsage, Loads, names_of};
+ghost use Rattle.vc_top.specs.Refusals.{Answer};
 ghost use Rattle.vc_top.specs.Delivery.{Delivers};
-ghost use Rattle.vc_top.specs.Requests.{request};
 ghost use Rattle.vc_top.specs.Seen.{seen};
 ghost use Rattle.vc_top.specs.Views.{loaded_of, answer_of};
-ghost use Rattle.vc_top.specs.Words.{request_of, names_of};
 
-use crate::answer::{EvalFault, evaluation};
-use crate::request::{Request, request_of};
+use crate::context::context;
+use crate::evaluation::evaluation;
 use crate::status::Status;
 use std::alloc::Global;
+use vc_command::{Request, RequestFault, request_of};
 use vc_files::{Files, ReadFault, Sink};
 
 /// The greatest number of bytes of a file.
@@ -45,26 +46,32 @@ fn eval_file<F: Files>(
     ensures answer { AllowsEvalFile (seen (F.held files.old) (F.faults files.old) (F.faults files.new)) file.now word.now (answer_of result) }
 {
     let bytes = load(files, file)?;
-    match evaluation(alloc, &bytes, word.as_bytes()) {
-        Ok(text) => Ok(text),
-        Err(EvalFault::Syntax) => Err(Status::Syntax),
-        Err(EvalFault::Memory) => Err(Status::Memory),
+    evaluation(alloc, &bytes, word.as_bytes())
+}
+
+/// The answer to a request; one of a command that is not built is `Usage`.
+fn answer<F: Files>(alloc: Global, request: &Request, files: &mut F) -> Result<String, Status>
+    ensures held { F.held files.new ≡ F.held files.old }
+    ensures faults { Grows (names_of (Some (asked request.now))) (F.faults files.old) (F.faults files.new) }
+    ensures answer { Allows (Some (asked request.now)) (seen (F.held files.old) (F.faults files.old) (F.faults files.new)) (answer_of result) }
+{
+    match request {
+        Request::Context { text } => context(alloc, text.as_bytes()),
+        Request::EvalFile { file, word } => eval_file(alloc, files, file, word),
+        _ => Err(Status::Usage),
     }
 }
 
-/// The answer to a request.
-fn answer<F: Files>(
-    alloc: Global,
-    asked: Option<Request<'_>>,
-    files: &mut F,
-) -> Result<String, Status>
+/// The answer to words.
+fn answer_to<F: Files>(alloc: Global, words: &[String], files: &mut F) -> Result<String, Status>
     ensures held { F.held files.new ≡ F.held files.old }
-    ensures faults { Grows (names_of (option_map request asked.entry)) (F.faults files.old) (F.faults files.new) }
-    ensures answer { Allows (option_map request asked.entry) (seen (F.held files.old) (F.faults files.old) (F.faults files.new)) (answer_of result) }
+    ensures faults { Grows (names_of (request_of (map string_bytes words.now))) (F.faults files.old) (F.faults files.new) }
+    ensures answer { Allows (request_of (map string_bytes words.now)) (seen (F.held files.old) (F.faults files.old) (F.faults files.new)) (answer_of result) }
 {
-    match asked {
-        None => Err(Status::Usage),
-        Some(Request::EvalFile { file, word }) => eval_file(alloc, files, file, word),
+    match request_of(alloc, words) {
+        Ok(request) => answer(alloc, &request, files),
+        Err(RequestFault::Usage) => Err(Status::Usage),
+        Err(RequestFault::Memory(_)) => Err(Status::Memory),
     }
 }
 
@@ -84,8 +91,9 @@ fn deliver<O: Sink>(answer: &Result<String, Status>, out: &mut O) -> Status
 /// Does what the words ask, and answers the status.
 ///
 /// The words are those after the program's name. Files are read from `files`, the answer goes to `out` once it stands
-/// whole, and `err` is kept for the lines of refusals. `eval FILE WORD` prints the coefficient of the file's automaton
-/// at the word, and a line feed (Sakarovitch, Elements of Automata Theory).
+/// whole, and `err` is kept for the lines of refusals. `context C` prints the canonical text of the context, and
+/// `eval FILE WORD` the coefficient of the file's automaton at the word (Sakarovitch, Elements of Automata Theory), each
+/// with a line feed. A request of a command that is not built yet is `Usage`.
 pub fn run<F: Files, O: Sink, E: Sink>(
     alloc: Global,
     words: &[String],
@@ -106,7 +114,8 @@ pub fn run<F: Files, O: Sink, E: Sink>(
     ensures nothing { result ≢ Status.Done → result ≢ Status.WriteFault → O.written out.new ≡ O.written out.old }
 
     // Over every store and every sink.
-    ensures usage { (result ≡ Status.Usage) ↔ (request_of (map string_bytes words.now) ≡ None) }
+    ensures usage { result ≡ Status.Usage → IsUsage (request_of (map string_bytes words.now)) }
+    ensures asked { IsUsage (request_of (map string_bytes words.now)) → (result ≡ Status.Usage) ⊎ (result ≡ Status.Memory) }
     ensures faults { Grows (names_of (request_of (map string_bytes words.now))) (F.faults files.old) (F.faults files.new) }
     ensures read_fault { result ≡ Status.ReadFault → Added (F.faults files.old) (F.faults files.new) }
     ensures write_fault { result ≡ Status.WriteFault → Rose (O.faults out.old) (O.faults out.new) }
@@ -114,8 +123,7 @@ pub fn run<F: Files, O: Sink, E: Sink>(
     ensures err { E.written err.new ≡ E.written err.old }
     ensures err_faults { E.faults err.new ≡ E.faults err.old }
 {
-    let request = request_of(words);
-    let answer = answer(alloc, request, files);
+    let answer = answer_to(alloc, words, files);
     let _ = &*err;
     deliver(&answer, out)
 }

@@ -8,7 +8,7 @@ pub loop-preserved : goal.loop-preserved
 loop-preserved g c =
     let R = g.S.Semiring.set in
     let i = c.loop.invariant in
-    let e : c.add_state.new.self ≡ with_state R c.loop.builder = c.in_default.ensures.ok in
+    let e : c.add_state.new.self ≡ with_state R c.loop.builder = c.in-Ok.ensures.ok in
     let n : c.args.count - c.loop.counter ≡ suc (c.args.count - (c.loop.counter + 1)) = omega (arith, c.loop-test.true) in
     let s : c.add_state.new.self.automaton.states ≡ c.loop.builder.automaton.states + 1 = ap (λ d. d.automaton.states) e in (
       omega (arith, c.loop-test.true),

@@ -1,0 +1,140 @@
+use crate::{RequestFault, request_of};
+use std::alloc::{AllocError, Global};
+use std::test::Fail;
+
+// The words that stand between bars in the text.
+fn words(alloc: Global, text: &str) -> Result<Vec<String>, AllocError> {
+    let mut words = Vec::new(alloc);
+    for word in text.split('|') {
+        words.push(String::from_str(alloc, word)?)?;
+    }
+    Ok(words)
+}
+
+#[test]
+fn words_give_their_request(rt: HostRuntime) -> Result<(), Fail> {
+    let alloc = rt.alloc();
+    for (text, asked) in [
+        (
+            "context|lal_char(ab), b",
+            "Context { text: \"lal_char(ab), b\" }",
+        ),
+        ("expr|C|a+b", "Expr { context: \"C\", text: \"a+b\" }"),
+        ("cat|F1", "Cat { file: \"F1\" }"),
+        ("cat|-", "Cat { file: \"-\" }"),
+        ("cat|--|--limit", "Cat { file: \"--limit\" }"),
+        ("--|cat|--", "Cat { file: \"--\" }"),
+        ("eval|F1|", "EvalFile { file: \"F1\", word: \"\" }"),
+        (
+            "eval|C|a*|aab",
+            "EvalExpr { context: \"C\", text: \"a*\", word: \"aab\" }",
+        ),
+        (
+            "--limit|3|standard|C|a*",
+            "Standard { context: \"C\", text: \"a*\", limit: 3 }",
+        ),
+        (
+            "standard|C|--limit=3|a*",
+            "Standard { context: \"C\", text: \"a*\", limit: 3 }",
+        ),
+        (
+            "derived|C|a*",
+            "Derived { context: \"C\", text: \"a*\", limit: 100000 }",
+        ),
+        ("proper|F7", "Proper { file: \"F7\" }"),
+        ("trim|F7", "Trim { file: \"F7\" }"),
+        (
+            "conjunction|A|B|--limit=0001000000",
+            "Conjunction { first: \"A\", second: \"B\", limit: 1000000 }",
+        ),
+        (
+            "shuffle|A|B|--limit|1",
+            "Shuffle { first: \"A\", second: \"B\", limit: 1 }",
+        ),
+        (
+            "compose|A|B",
+            "Compose { first: \"A\", second: \"B\", limit: 100000 }",
+        ),
+        (
+            "determinize|F3|--limit|10",
+            "Determinize { file: \"F3\", limit: 10 }",
+        ),
+        ("quotient|F14", "Quotient { file: \"F14\" }"),
+        (
+            "to-expression|F",
+            "ToExpression { file: \"F\", order: None }",
+        ),
+        (
+            "to-expression|F|--order|1,0",
+            "ToExpression { file: \"F\", order: Some([1, 0]) }",
+        ),
+        (
+            "--order=004294967295|to-expression|F",
+            "ToExpression { file: \"F\", order: Some([4294967295]) }",
+        ),
+        ("reduce|F14", "Reduce { file: \"F14\" }"),
+        ("generate|0300", "Generate { n: 300 }"),
+        ("generate|1000", "Generate { n: 1000 }"),
+    ] {
+        let request = request_of(alloc, &words(alloc, text)?).ok().ok_or(text)?;
+        assert_eq!(rt; format!(in alloc; "{request:?}")?.as_str(), asked, "{text}");
+    }
+    Ok(())
+}
+
+#[test]
+fn other_words_give_none(rt: HostRuntime) -> Result<(), Fail> {
+    let alloc = rt.alloc();
+    assert_eq!(rt; request_of(alloc, &[]), Err(RequestFault::Usage));
+    for text in [
+        "",
+        "eval",
+        "eval|F1",
+        "eval|C|E|a|b",
+        "cat",
+        "cat|F1|F2",
+        "Cat|F1",
+        "generate|0",
+        "generate|1001",
+        "generate|+3",
+        "generate|",
+        "generate|340282366920938463463374607431768211456",
+        "cat|-F1",
+        "cat|--help",
+        "-h",
+        "--version",
+        "cat|F1|--limit|3",
+        "to-expression|F|--limit|3",
+        "standard|C|E|--order|1,0",
+        "standard|C|E|--limits|3",
+        "standard|C|E|--lim|3",
+        "standard|C|E|--=3",
+        "standard|C|E|--limit",
+        "standard|C|E|--limit=",
+        "standard|C|E|--limit|0",
+        "standard|C|E|--limit|1000001",
+        "standard|C|E|--limit|+3",
+        "standard|C|E|--limit|-3",
+        "standard|C|E|--limit|-",
+        "standard|C|E|--limit=-",
+        "standard|C|E|--limit|--",
+        "standard|C|E|--limit|--|3",
+        "standard|C|E|--limit|--limit=3",
+        "standard|C|E|--limit|3|--limit|3",
+        "standard|C|E|--limit=3|--limit=3",
+        "standard|C|E|--|--limit|3",
+        "to-expression|F|--order=",
+        "to-expression|F|--order=1,",
+        "to-expression|F|--order=1,,0",
+        "to-expression|F|--order=1, 0",
+        "to-expression|F|--order=4294967296",
+    ] {
+        let words = words(alloc, text)?;
+        assert_eq!(rt;
+            request_of(alloc, &words),
+            Err(RequestFault::Usage),
+            "{text}"
+        );
+    }
+    Ok(())
+}

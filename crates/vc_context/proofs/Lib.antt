@@ -1,0 +1,13 @@
+pub mod Steps
+pub mod Fronts
+pub mod Items
+pub mod Alphabets
+pub mod Gathering
+pub mod OneTape
+pub mod OneRead
+pub mod Heads
+pub mod Joins
+pub mod Whole
+pub mod Refusals
+pub mod Written
+pub mod Growths

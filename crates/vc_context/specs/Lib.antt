@@ -1,0 +1,6 @@
+pub mod Spelling
+pub mod Sets
+pub mod Canonical
+pub mod Reading
+pub mod Gathered
+pub mod Growth
