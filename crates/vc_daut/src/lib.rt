@@ -4,6 +4,7 @@
 mod add;
 mod check;
 mod class;
+mod context;
 mod fault;
 mod head;
 mod label;
@@ -14,9 +15,12 @@ mod names;
 mod read;
 mod tokens;
 
+pub use context::daut_context;
 pub use fault::{DautFault, HeadFault};
 pub use law::{built_automata_are_spelled, lines_have_their_tokens};
 pub use read::read_daut;
 
 #[cfg(test)]
 mod tests;
+#[cfg(test)]
+mod context_tests;
