@@ -17,3 +17,5 @@ pub mod Stated
 pub mod Answered
 pub mod Added
 pub mod Cut
+mod Before
+mod NoContext

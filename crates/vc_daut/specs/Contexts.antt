@@ -1,6 +1,5 @@
 -- The context line of a file.
 use Rattle.std.specs.Prelude.{◌≡◌, ℕ, ◌+◌, Bool, false, ◌&&◌, ◌||◌, List, [], ◌∷◌, codes, length, take, drop, nat_lt, Option, None, Some, Result, Ok, Err, if◌then◌else◌, ◌==◌}
-use Rattle.std.specs.List.{prefix_len}
 use Rattle.std.specs.Option.{option_and_then}
 use Rattle.std.specs.Str.{bytes_eq}
 use Rattle.vc_context.specs.Sets.{tapes_of}
@@ -16,7 +15,8 @@ use Rattle.vc_daut.specs.Heads.{HeadLine, is_blank_line}
 
 -- the text behind the blanks at its front
 abbrev pub behind_blanks : List ℕ → List ℕ
-behind_blanks text = drop (prefix_len is_blank text) text
+behind_blanks [] = []
+behind_blanks (x ∷ s) = if is_blank x then behind_blanks s else x ∷ s
 
 -- the text behind a front that it begins with
 abbrev pub behind : List ℕ → List ℕ → Option (List ℕ)
@@ -27,6 +27,12 @@ abbrev pub before : (List ℕ → Bool) → List ℕ → ℕ
 before stops [] = 0
 before stops (x ∷ []) = if stops (x ∷ []) then 0 else 1
 before stops (x ∷ y ∷ s) = if stops (x ∷ y ∷ s) then 0 else (if x == 92 && is_escaped y then 2 + before stops s else 1 + before stops (y ∷ s))
+
+-- the text behind its first letter or byte, where a letter may be escaped
+abbrev pub behind_one : List ℕ → List ℕ
+behind_one [] = []
+behind_one (x ∷ []) = []
+behind_one (x ∷ y ∷ s) = if x == 92 && is_escaped y then s else y ∷ s
 
 abbrev pub begins_quote : List ℕ → Bool
 begins_quote text = begins_with 34 text

@@ -1,6 +1,6 @@
-ghost use Rattle.std.specs.Prelude.{◌≡◌, ◌≤◌, length};
+ghost use Rattle.std.specs.Prelude.{◌≡◌, ◌<◌, ◌≤◌, length};
 ghost use Rattle.std.specs.Option.{option_copied};
-ghost use Rattle.vc_daut.specs.Contexts.{IsContextOf, before, begins_comment, begins_quote, behind, behind_blanks, context_text, quoted, value_text};
+ghost use Rattle.vc_daut.specs.Contexts.{IsContextOf, before, behind_one, begins_comment, begins_quote, behind, behind_blanks, context_text, quoted, value_text};
 ghost use Rattle.vc_daut.specs.Heads.{head_line};
 ghost use Rattle.vc_daut.specs.Lines.{lines_of};
 ghost use Rattle.vc_lex.specs.Letters.{is_escaped};
@@ -13,11 +13,11 @@ use vc_context::{AnyContext, read_context};
 fn behind_blanks(text: &[u8]) -> &[u8]
     ensures { result.now ≡ behind_blanks text.now }
 {
-    let blanks = text
-        .iter()
-        .take_while(|byte| **byte == b' ' || **byte == b'\t')
-        .count();
-    &text[blanks..]
+    let mut rest = text;
+    while let [b' ' | b'\t', after @ ..] = rest {
+        rest = after;
+    }
+    rest
 }
 
 /// The text behind a front that it begins with.
@@ -53,30 +53,46 @@ fn begins_comment(text: &[u8]) -> bool
     }
 }
 
-/// How many bytes the letter or the byte has that begins the text, of which there is one.
-fn step(text: &[u8]) -> usize {
+/// The text behind its first letter or byte, where a letter may be escaped.
+fn behind_one(text: &[u8]) -> &[u8]
+    ensures value { result.now ≡ behind_one text.now }
+    ensures shorter { 0 < length text.now → length result.now < length text.now }
+{
     match text {
-        [b'\\', letter, ..] if is_escaped(*letter) => 2,
-        _ => 1,
+        [] => text,
+        [_] => &text[1..],
+        [first, second, rest @ ..] => {
+            if *first == b'\\' && is_escaped(*second) {
+                rest
+            } else {
+                &text[1..]
+            }
+        }
     }
 }
 
 /// How many bytes stand before the first double quote outside of escaped letters.
-fn before_quote(text: &[u8]) -> usize {
-    let mut place = 0;
-    while place < text.len() && !begins_quote(&text[place..]) {
-        place += step(&text[place..]);
+fn before_quote(text: &[u8]) -> usize
+    ensures value { result ≡ before begins_quote text.now }
+    ensures bound { result ≤ length text.now }
+{
+    let mut rest = text;
+    while !rest.is_empty() && !begins_quote(rest) {
+        rest = behind_one(rest);
     }
-    place
+    text.len() - rest.len()
 }
 
 /// How many bytes stand before the first comment outside of escaped letters.
-fn before_comment(text: &[u8]) -> usize {
-    let mut place = 0;
-    while place < text.len() && !begins_comment(&text[place..]) {
-        place += step(&text[place..]);
+fn before_comment(text: &[u8]) -> usize
+    ensures value { result ≡ before begins_comment text.now }
+    ensures bound { result ≤ length text.now }
+{
+    let mut rest = text;
+    while !rest.is_empty() && !begins_comment(rest) {
+        rest = behind_one(rest);
     }
-    place
+    text.len() - rest.len()
 }
 
 /// The text in double quotes, behind the first of them.

@@ -21,6 +21,6 @@ pub use law::{built_automata_are_spelled, lines_have_their_tokens};
 pub use read::read_daut;
 
 #[cfg(test)]
-mod tests;
-#[cfg(test)]
 mod context_tests;
+#[cfg(test)]
+mod tests;

@@ -1,0 +1,17 @@
+-- A first line that spells no context.
+use Rattle.std.proofs.Common.{◌≡◌, ℕ, List, Option, None, Some, Err, refl, sym, ◌∙◌, subst}
+use Rattle.vc_context.specs.Spelling.{SpellsContext}
+use Rattle.vc_context.specs.declared.context.Weights.{Weights}
+use Rattle.vc_label.specs.declared.tape_set.TapeSet.{TapeSet}
+use Rattle.vc_daut.specs.Contexts.{IsContextOf, context_text}
+use Rattle.vc_daut.specs.Heads.{HeadLine}
+use Rattle.vc_daut.specs.declared.fault.HeadFault.TheVariants.{Syntax}
+
+some_same : {X : Type 0} (x y : X) → Some x ≡ Some y → x ≡ y
+some_same x y h = cc h
+
+pub not_context : (last : ℕ) (o : Option HeadLine) (h : HeadLine) (text : List ℕ) → o ≡ Some h → Some text ≡ context_text h.line
+    → ((sets : List TapeSet) (weights : Weights) → ¬ SpellsContext text sets weights) → IsContextOf last o (Err (Syntax h.number))
+not_context last o h text e q n =
+    subst (λ p. IsContextOf last p (Err (Syntax h.number))) (sym e)
+    (refl, λ t sets weights r s. n sets weights (subst (λ x. SpellsContext x sets weights) (some_same t text (sym r ∙ sym q)) s))

@@ -1,0 +1,13 @@
+use Rattle.std.proofs.Common.{◌≡◌, Some, length, rules}
+use Rattle.vc_daut.specs.Contexts.{context_text}
+use Rattle.vc_daut.specs.Heads.{HeadLine, head_line}
+use Rattle.vc_daut.specs.Lines.{lines_of, more_lines}
+use Rattle.vc_daut.proofs.NoContext.{not_context}
+use Rattle.vc_daut.proofs.context.daut_context.Goals as goal
+
+pub returns-in-Err : goal.returns-in-Err
+returns-in-Err c =
+    let h : HeadLine = record { number = c.in-Line.number; line = c.in-Line.line.now; behind = more_lines c.in-Line.field-2.now } in
+    let e : head_line 1 (lines_of c.args.bytes.now) ≡ Some h = search rules in
+    let t : Some c.in-Some.text.now ≡ context_text c.in-Line.line.now = c.in-Some.ensures in
+    not_context (length (lines_of c.args.bytes.now)) (head_line 1 (lines_of c.args.bytes.now)) h c.in-Some.text.now e t c.in-Err.ensures.none
