@@ -19,3 +19,8 @@ pub mod Added
 pub mod Cut
 mod Before
 mod NoContext
+pub mod Fronts
+pub mod Chains
+pub mod Printed
+pub mod Grouped
+pub mod Marked

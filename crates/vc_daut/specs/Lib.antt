@@ -14,3 +14,5 @@ pub mod Contexts
 pub mod Answers
 pub mod Keys
 pub mod Building
+pub mod Canonical
+pub mod Growing

@@ -2,6 +2,7 @@
 #![tactic(auto)]
 
 mod add;
+mod append;
 mod check;
 mod class;
 mod context;
@@ -13,12 +14,15 @@ mod line;
 mod lines;
 mod names;
 mod read;
+mod targets;
 mod tokens;
+mod write;
 
 pub use context::daut_context;
 pub use fault::{DautFault, HeadFault};
 pub use law::{built_automata_are_spelled, lines_have_their_tokens};
 pub use read::read_daut;
+pub use write::write_daut;
 
 #[cfg(test)]
 mod context_tests;
