@@ -85,6 +85,7 @@ residues_absorb h = absurd (cc (h true))
 
 pub residue_texts : TextLaws residues spelled_bit (λ _. true) bit_text
 residue_texts = record {
+  not_empty = refl;
   read_in = λ text v e f. refl;
   written = λ v p. bit_written v;
   written_fits = λ v p. refl;

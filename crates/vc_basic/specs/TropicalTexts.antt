@@ -60,6 +60,7 @@ tropical_bytes (Finite n) = All-decimal IsWeightByte digit_byte n
 
 pub tropical_texts : TextLaws tropical spelled_tropical tropical_fits tropical_text
 tropical_texts = record {
+  not_empty = refl;
   read_in = λ text v e h. held (is_infinity text) (is_numeral text) (number_of_digits text) v e h;
   written = tropical_written;
   written_fits = tropical_written_fits;

@@ -95,6 +95,7 @@ bit_bytes false = single_byte 48 (weight_byte 48 refl)
 
 pub truth_texts : TextLaws truths spelled_bit (λ _. true) bit_text
 truth_texts = record {
+  not_empty = refl;
   read_in = λ text v e f. refl;
   written = λ v p. bit_written v;
   written_fits = λ v p. refl;

@@ -84,6 +84,7 @@ whole_bytes (negsuc n) = All-cons IsWeightByte 45 (decimal (suc n)) minus_byte (
 
 pub whole_texts : TextLaws wholes spelled_whole whole_fits signed_decimal
 whole_texts = record {
+  not_empty = refl;
   read_in = whole_read_in;
   written = whole_written;
   written_fits = whole_written_fits;

@@ -1,12 +1,14 @@
 -- What is given adds up to the automaton that a text spells.
 use Rattle.std.proofs.Common.{◌≡◌, ◌≢◌, ◌⊎◌, ◌<◌, ◌+◌, ℕ, zero, suc, Bool, true, false, List, [], ◌∷◌, ◌++◌, length, map, set, get_or, eqb, Option, Some, None, inl, inr, refl, sym, ap, ap₂, ◌∙◌, subst, arith}
-use Rattle.std.specs.Prelude.{unwrap_or, if◌then◌else◌, replicate}
+use Rattle.std.specs.Prelude.{not, unwrap_or, if◌then◌else◌, replicate}
 use Rattle.std.specs.Option.{is_some}
 use Rattle.std.specs.List.{flat_map}
 use Rattle.std.proofs.lemmas.List.{append-nil, append_assoc}
+use Rattle.std.proofs.lemmas.List.Kept.{IsStrictlySortedBy-filter}
 use Rattle.std.proofs.lemmas.Bool.{eq-eqb}
 use Rattle.std.proofs.lemmas.Bool.Decides.{eqb_tells}
 use Rattle.vc_aut.specs.Drafts.{Draft, empty_draft, with_state, finished, without_zeros}
+use Rattle.vc_aut.specs.Order.{triple_order, AreInOrder}
 use Rattle.vc_aut.specs.Sums.{insert_transition, insert_all}
 use Rattle.vc_aut.specs.Labelled.{Labelled}
 use Rattle.vc_label.specs.declared.tape_set.TapeSet.{TapeSet}
@@ -170,6 +172,14 @@ module _ {V : Type 0} (R : WeightSet V) (L : SemiringLaws R) where
         transitions = subst (λ ts. IsGathered R (flat_map (moving R) given) (without_zeros R same ts)) (sym a.transitions) (gathered (flat_map (moving R) given));
       }
 
+  -- its transitions are in order
+  finished_order : (same : V → V → Bool) (n most : ℕ) (sets : List TapeSet) (given : List (Given V)) → ((added : List (Transition V)) → AreInOrder (insert_all R [] added))
+      → AreInOrder (finished R same (with_all R (with_states R n (empty_draft most sets)) given)).automaton.transitions
+  finished_order same n most sets given ordered =
+      let a = all_added n [] given (with_states R n (empty_draft most sets)) (begun most n sets) in
+      subst (λ ts. AreInOrder (without_zeros R same ts)) (sym a.transitions)
+      (IsStrictlySortedBy-filter triple_order (λ (t : Transition V). not (same t.weight R.zero)) (insert_all R [] (flat_map (moving R) given)) (ordered (flat_map (moving R) given)))
+
   lines_are : (spelled : List ℕ → Option V) (n : ℕ) (texts : List (List ℕ)) → bad_line spelled n texts ≡ None → AreLines spelled texts (lines_in spelled texts)
   lines_are spelled n [] e = tt
   lines_are spelled n (t ∷ ts) e = go (line_at spelled t) refl (λ h. lines_are spelled (n + 1) ts h) e
@@ -180,8 +190,10 @@ module _ {V : Type 0} (R : WeightSet V) (L : SemiringLaws R) where
 
   -- what was built is spelled
   pub built_spelled : (same : V → V → Bool) (spelled : List ℕ → Option V) (fit : List ℕ → Bool) (sets : List TapeSet) (h : HeadLine) (a : Labelled V)
-      → ((added : List (Transition V)) → IsGathered R added (without_zeros R same (insert_all R [] added))) → IsBuilt R same spelled fit sets h a → Spells R spelled sets h.behind a.automaton
-  built_spelled same spelled fit sets h a gathered b =
+      → ((added : List (Transition V)) → IsGathered R added (without_zeros R same (insert_all R [] added)))
+      → ((added : List (Transition V)) → AreInOrder (insert_all R [] added))
+      → IsBuilt R same spelled fit sets h a → Spells R spelled sets h.behind a.automaton
+  built_spelled same spelled fit sets h a gathered ordered b =
       record {
         lines = lines_in spelled h.behind;
         names = b.names;
@@ -190,4 +202,6 @@ module _ {V : Type 0} (R : WeightSet V) (L : SemiringLaws R) where
         are_names = b.are_names;
         sum = subst (λ (x : Labelled V). IsSumOf R (length b.names) (flat_map (given_by R spelled sets (number_of b.names)) (lines_in spelled h.behind)) x.automaton) (sym b.built)
             (sum_finished same (length b.names) 1000000 sets (flat_map (given_by R spelled sets (number_of b.names)) (lines_in spelled h.behind)) gathered);
+        order = subst (λ (x : Labelled V). AreInOrder x.automaton.transitions) (sym b.built)
+            (finished_order same (length b.names) 1000000 sets (flat_map (given_by R spelled sets (number_of b.names)) (lines_in spelled h.behind)) ordered);
       }

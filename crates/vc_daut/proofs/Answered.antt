@@ -7,7 +7,7 @@ use Rattle.vc_model.specs.WeightSet.{WeightSet}
 use Rattle.vc_ring.specs.declared.faults.Overflow.TheVariants.{Numeral, Add, Mul, Star}
 use Rattle.vc_daut.specs.declared.fault.DautFault.{DautFault}
 use Rattle.vc_daut.specs.declared.fault.DautFault.TheVariants.{Syntax, NotALabel, Overflow, Limit, Memory}
-use Rattle.vc_daut.specs.Answers.{IsBuiltBy, IsReadBehind}
+use Rattle.vc_daut.specs.Answers.{IsBuiltBy, IsReadBehind, AreInGrammar}
 use Rattle.vc_daut.specs.Heads.{HeadLine}
 use Rattle.vc_daut.specs.Names.{AreInOrder, AreNames, with_names}
 use Rattle.vc_daut.specs.Passes.{IsChecked}
@@ -41,17 +41,17 @@ module _ {V : Type 0} (R : WeightSet V) (same : V → V → Bool) (spelled : Lis
   check_fault old new (Limit l) c = absurd c
   check_fault old new (Memory e) c = tt
 
-  pub build_fault : (names : List (List ℕ)) (f : DautFault V) → AreNames (lines_in spelled h.behind) names → IsBuiltBy R same spelled fit sets (h.number + 1) (lines_in spelled h.behind) names (Err f) → IsReadBehind R same spelled fit sets h (Err f)
-  build_fault names (Syntax line) n (new, b) = absurd b
-  build_fault names (NotALabel line from to) n (new, b) = absurd b
-  build_fault names (Overflow line (Numeral at)) n (new, b) = b
-  build_fault names (Overflow line (Add v w)) n (new, b) = (names, n, b)
-  build_fault names (Overflow line (Mul v w)) n (new, b) = b
-  build_fault names (Overflow line (Star v)) n (new, b) = b
-  build_fault names (Limit l) n (new, b) = inr (names, n, b)
-  build_fault names (Memory e) n (new, b) = tt
+  pub build_fault : (names : List (List ℕ)) (f : DautFault V) → AreInGrammar R same spelled fit sets h → AreNames (lines_in spelled h.behind) names → IsBuiltBy R same spelled fit sets (h.number + 1) (lines_in spelled h.behind) names (Err f) → IsReadBehind R same spelled fit sets h (Err f)
+  build_fault names (Syntax line) m n (new, b) = absurd b
+  build_fault names (NotALabel line from to) m n (new, b) = absurd b
+  build_fault names (Overflow line (Numeral at)) m n (new, b) = (m, b)
+  build_fault names (Overflow line (Add v w)) m n (new, b) = (m, names, n, b)
+  build_fault names (Overflow line (Mul v w)) m n (new, b) = b
+  build_fault names (Overflow line (Star v)) m n (new, b) = b
+  build_fault names (Limit l) m n (new, b) = (m, inr (names, n, b))
+  build_fault names (Memory e) m n (new, b) = tt
 
   pub build_answer : (names : List (List ℕ)) (r : Result (Labelled V) (DautFault V)) → bad_line spelled (h.number + 1) h.behind ≡ None → AreOver sets (lines_in spelled h.behind) → length names ≤ 1000000
       → AreNames (lines_in spelled h.behind) names → IsBuiltBy R same spelled fit sets (h.number + 1) (lines_in spelled h.behind) names r → IsReadBehind R same spelled fit sets h r
   build_answer names (Ok a) bad over few n (b, t, k) = record { names = names; are_lines = bad; over = over; are_names = n; few = few; numbers = k; taken = t; built = b }
-  build_answer names (Err f) bad over few n b = build_fault names f n b
+  build_answer names (Err f) bad over few n b = build_fault names f (bad, over) n b

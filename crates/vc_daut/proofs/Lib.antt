@@ -24,3 +24,4 @@ pub mod Chains
 pub mod Printed
 pub mod Grouped
 pub mod Marked
+pub mod Reread

@@ -58,14 +58,18 @@ module _ {V : Type 0} (R : WeightSet V) (same : V → V → Bool) (spelled : Lis
       ((l ≡ record { what = States; most = 1000000 }) × (1000000 < length (with_names [] (flat_map line_names (lines_in spelled h.behind)))))
       ⊎ ((names : List (List ℕ)) × AreNames (lines_in spelled h.behind) names × IsRefused R (states_alone (length names)) (given_behind h names) (PastLimit l))
 
+  -- each text is a line, and all labels are in the sets
+  abbrev pub AreInGrammar : HeadLine → Type 0
+  AreInGrammar h = (bad_line spelled (h.number + 1) h.behind ≡ None) × AreOver sets (lines_in spelled h.behind)
+
   -- the answer of the reader, where this is the first line that is not blank
   abbrev pub IsReadBehind : HeadLine → Result (Labelled V) (DautFault V) → Type 0
   IsReadBehind h (Ok automaton) = IsBuilt h automaton
   IsReadBehind h (Err (Syntax line)) = bad_line spelled (h.number + 1) h.behind ≡ Some line
   IsReadBehind h (Err (NotALabel line from to)) = (bad_line spelled (h.number + 1) h.behind ≡ None) × IsFirstLabel sets (h.number + 1) (lines_in spelled h.behind) line (from, to)
-  IsReadBehind h (Err (Overflow line (Numeral at))) = IsNumeralAt R spelled numbers_fit (h.number + 1) (lines_in spelled h.behind) line at
-  IsReadBehind h (Err (Overflow line (Add v w))) = IsUnfit h line (Unfit (Add v w))
+  IsReadBehind h (Err (Overflow line (Numeral at))) = AreInGrammar h × IsNumeralAt R spelled numbers_fit (h.number + 1) (lines_in spelled h.behind) line at
+  IsReadBehind h (Err (Overflow line (Add v w))) = AreInGrammar h × IsUnfit h line (Unfit (Add v w))
   IsReadBehind h (Err (Overflow line (Mul v w))) = ⊥
   IsReadBehind h (Err (Overflow line (Star v))) = ⊥
-  IsReadBehind h (Err (Limit l)) = IsPastLimit h l
+  IsReadBehind h (Err (Limit l)) = AreInGrammar h × IsPastLimit h l
   IsReadBehind h (Err (Memory e)) = ⊤

@@ -2,9 +2,15 @@
 use Rattle.std.specs.Prelude.{◌≡◌, ◌⊎◌, ℕ, ◌+◌, List, [], ◌∷◌, map, length, Option, None, Some, unwrap_or, if◌then◌else◌, ⊤}
 use Rattle.std.specs.Option.{is_some}
 use Rattle.std.specs.List.{flat_map}
+use Rattle.vc_aut.specs.Order.{AreInOrder}
+use Rattle.vc_context.specs.Spelling.{SpellsContext}
+use Rattle.vc_context.specs.declared.context.Weights.{Weights}
 use Rattle.vc_label.specs.declared.tape_set.TapeSet.{TapeSet}
 use Rattle.vc_model.specs.Automata.{Automaton}
 use Rattle.vc_model.specs.WeightSet.{WeightSet}
+use Rattle.vc_daut.specs.Contexts.{context_text}
+use Rattle.vc_daut.specs.Heads.{HeadLine, head_line}
+use Rattle.vc_daut.specs.Lines.{lines_of}
 use Rattle.vc_daut.specs.Marks.{Mark, span_of}
 use Rattle.vc_daut.specs.Grammar.{Line, blank, initial_at, final_at, moves, state, line_at, entries_of, entry_label}
 use Rattle.vc_daut.specs.Labels.{IsLabelOver}
@@ -69,7 +75,7 @@ module _ (sets : List TapeSet) where
   IsFirstLabel n [] line p = ⊥
   IsFirstLabel n (l ∷ ls) line p = ((line ≡ n) × IsFirstInLine l p) ⊎ (IsLineOver l × IsFirstLabel (n + 1) ls line p)
 
--- the texts spell the automaton: each is a line, labels are in the sets, states are numbered by their names, and what the lines give is added up
+-- the texts spell the automaton: each is a line, labels are in the sets, states are numbered by their names, what the lines give is added up, and the transitions are in the order of source, label and target
 pub record Spells {V : Type 0} (R : WeightSet V) (spelled : List ℕ → Option V) (sets : List TapeSet) (texts : List (List ℕ)) (automaton : Automaton V) : Type 0 where
   pub lines : List Line
   pub names : List (List ℕ)
@@ -77,3 +83,13 @@ pub record Spells {V : Type 0} (R : WeightSet V) (spelled : List ℕ → Option 
   pub over : AreOver sets lines
   pub are_names : AreNames lines names
   pub sum : IsSumOf R (length names) (flat_map (given_by R spelled sets (number_of names)) lines) automaton
+  pub order : AreInOrder automaton.transitions
+
+-- a text spells sets of labels, the name of a weight set and an automaton: its first line that is not blank is the context line, and the lines behind it spell the automaton
+pub record SpellsAutomaton {V : Type 0} (R : WeightSet V) (spelled : List ℕ → Option V) (text : List ℕ) (sets : List TapeSet) (weights : Weights) (automaton : Automaton V) : Type 0 where
+  pub head : HeadLine
+  pub context : List ℕ
+  pub is_head : head_line 1 (lines_of text) ≡ Some head
+  pub is_context : context_text head.line ≡ Some context
+  pub spells : SpellsContext context sets weights
+  pub behind : Spells R spelled sets head.behind automaton

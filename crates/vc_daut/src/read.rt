@@ -1,4 +1,4 @@
-ghost use Rattle.std.specs.Prelude.{◌≡◌, ◌+◌, ◌<◌, ◌≤◌, ◌^◌, ℕ, List, length, IfErr, OnOk, Some, None, Err};
+ghost use Rattle.std.specs.Prelude.{◌≡◌, ◌+◌, ◌<◌, ◌≤◌, ◌^◌, ℕ, List, length, IfErr, IfOk, OnOk, Some, None, Err};
 ghost use Rattle.vc_daut.specs.declared.fault.DautFault.TheVariants.{Syntax};
 ghost use Rattle.std.specs.List.{flat_map};
 ghost use Rattle.vc_daut.specs.Building.{IsAdded, KeepsShape, line_weights};
@@ -23,7 +23,7 @@ use crate::names::{Names, in_order};
 use crate::tokens::cut_tokens;
 use indexmap::IndexSet;
 use std::alloc::Global;
-use vc_aut::{Automaton, Builder};
+use vc_aut::{Automaton, Builder, drafts_are_valid};
 use vc_label::LabelSet;
 use vc_lex::Token;
 use vc_ring::{Limit, MakeFault, Measure, Semiring};
@@ -83,7 +83,8 @@ fn add_lines<L: LabelSet, S: Semiring>(
     requires states { builder.old.automaton.states ≡ length (names_seen names.now) }
     requires named { (a : List ℕ) → In a (flat_map line_names (lines_in S.spelled (more_lines text.now))) → In a (names_seen names.now) }
     requires over { AreOver (L.sets labels.now) (lines_in S.spelled (more_lines text.now)) }
-    ensures { AreAdded S.set S.spelled S.numbers_fit (given_by S.set S.spelled (L.sets labels.now) (number_of (names_seen names.now)))
+    ensures kept { OnOk result (KeepsShape builder.old builder.new) }
+    ensures answer { AreAdded S.set S.spelled S.numbers_fit (given_by S.set S.spelled (L.sets labels.now) (number_of (names_seen names.now)))
         first (lines_in S.spelled (more_lines text.now)) builder.old builder.new result }
 {
     let mut tokens = Vec::new(alloc);
@@ -130,7 +131,9 @@ fn build<L: LabelSet, S: Semiring>(
     requires few { length (names_seen names.now) ≤ 1000000 }
     requires named { (a : List ℕ) → In a (flat_map line_names (lines_in S.spelled (more_lines text.now))) → In a (names_seen names.now) }
     requires over { AreOver (L.sets labels) (lines_in S.spelled (more_lines text.now)) }
-    ensures { IsBuiltBy S.set S.Value.eq S.spelled S.numbers_fit (L.sets labels) first (lines_in S.spelled (more_lines text.now)) (names_seen names.now) result }
+    ensures answer { IsBuiltBy S.set S.Value.eq S.spelled S.numbers_fit (L.sets labels) first (lines_in S.spelled (more_lines text.now)) (names_seen names.now) result }
+    ensures sets { IfOk result (λ a. a.sets ≡ L.sets labels) }
+    ensures states { IfOk result (λ a. a.automaton.states ≤ 1000000) }
 {
     let mut builder = Builder::new(alloc, labels, MOST_STATES);
     if let Err(fault) = add_states(&mut builder, names.len()) {
@@ -139,6 +142,7 @@ fn build<L: LabelSet, S: Semiring>(
     if let Err(fault) = add_lines(alloc, &mut builder, &labels, names, text, first) {
         return Err(fault);
     }
+    drafts_are_valid(&builder);
     match builder.finish() {
         Ok(automaton) => return Ok(automaton),
         Err(e) => return Err(DautFault::Memory(e)),
@@ -157,6 +161,8 @@ pub fn read_daut<L: LabelSet, S: Semiring>(
     bytes: &[u8],
     labels: L,
 ) -> Result<Automaton<L, S>, DautFault<S::Value>>
+    ensures sets { IfOk result (λ a. a.sets ≡ L.sets labels) }
+    ensures states { IfOk result (λ a. a.automaton.states ≤ 1000000) }
     ensures blank { head_line 1 (lines_of bytes.now) ≡ None → result ≡ Err (Syntax (length (lines_of bytes.now))) }
     ensures behind { (h : HeadLine) → head_line 1 (lines_of bytes.now) ≡ Some h → IsReadBehind S.set S.Value.eq S.spelled S.numbers_fit (L.sets labels) h result }
 {

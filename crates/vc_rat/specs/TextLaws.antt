@@ -227,6 +227,7 @@ at-in (Some at) text x e h =
 
 pub fraction_texts : TextLaws rationals spelled_fraction fraction_fits fraction_text
 fraction_texts = record {
+  not_empty = refl;
   read_in = λ text x e h. at-in (slash_in text) text x e h;
   written = λ x h. by-test (λ t. spelled_fraction t ≡ Some x) (int_eq x.bottom (pos 1)) (signed_decimal x.top) (quotient_text x) (λ e. read-whole x h e) (read-quotient x h);
   written_fits = λ x h. by-test (λ t. IsTrue (fraction_fits t)) (int_eq x.bottom (pos 1)) (signed_decimal x.top) (quotient_text x) (λ e. fits-whole x h) (fits-quotient x h);

@@ -1,5 +1,5 @@
 -- The texts of weights.
-use Rattle.std.specs.Prelude.{◌≡◌, ◌≢◌, ◌≤◌, ℕ, Bool, true, List, All, IsTrue, Option, None, Some, Result, Ok, Err, if◌then◌else◌}
+use Rattle.std.specs.Prelude.{◌≡◌, ◌≢◌, ◌≤◌, ℕ, Bool, true, List, [], All, IsTrue, Option, None, Some, Result, Ok, Err, if◌then◌else◌}
 use Rattle.vc_model.specs.WeightSet.{WeightSet}
 use Rattle.vc_ring.specs.declared.faults.NumberFault.{NumberFault}
 use Rattle.vc_ring.specs.declared.faults.NumberFault.TheVariants.{Bad, Overflow}
@@ -16,8 +16,9 @@ pub record IsWeightByte (b : ℕ) : Type 0 where
   pub not_less : b ≢ 0x3C
   pub not_greater : b ≢ 0x3E
 
--- a weight set's texts: each text spells at most one element, and the canonical text of a value is a text that spells it, with no number past its range
+-- a weight set's texts: each text spells at most one element, the empty one none, and the canonical text of a value is a text that spells it, with no number past its range
 pub record TextLaws {V : Type 0} (R : WeightSet V) (spelled : List ℕ → Option V) (numbers_fit : List ℕ → Bool) (canonical : V → List ℕ) : Type 0 where
+  pub not_empty : spelled [] ≡ None
   pub read_in : (text : List ℕ) (v : V) → spelled text ≡ Some v → IsTrue (numbers_fit text) → IsTrue (R.in_range v)
   pub written : (v : V) → IsTrue (R.in_range v) → spelled (canonical v) ≡ Some v
   pub written_fits : (v : V) → IsTrue (R.in_range v) → IsTrue (numbers_fit (canonical v))
