@@ -25,3 +25,13 @@ pub mod Printed
 pub mod Grouped
 pub mod Marked
 pub mod Reread
+pub mod Tokened
+pub mod Relettered
+pub mod Relabelled
+pub mod Reweighed
+pub mod Reentered
+pub mod Relined
+pub mod Shown
+pub mod Recut
+pub mod Requoted
+pub mod Reheaded

@@ -1,0 +1,43 @@
+-- The canonical text of an automaton: its head, its context and its lines are read as what they say.
+use Rattle.std.proofs.Common.{◌≡◌, ℕ, ◌+◌, ◌↔◌, Bool, true, List, [], ◌∷◌, ◌++◌, map, codes, All, Option, Some, refl, ap, ◌∙◌}
+use Rattle.std.specs.Prelude.{IsTrue, if◌then◌else◌}
+use Rattle.vc_context.specs.Canonical.{context_text}
+use Rattle.vc_context.specs.declared.context.Weights.{Weights}
+use Rattle.vc_label.specs.Alphabets.{has_letter, letters_of}
+use Rattle.vc_label.specs.Letters.{is_letter, is_of_letters}
+use Rattle.vc_label.specs.Sets.{IsOverSets}
+use Rattle.vc_label.specs.declared.alphabet.Alphabet.{Alphabet}
+use Rattle.vc_label.specs.declared.tape_set.TapeSet.{TapeSet}
+use Rattle.vc_model.specs.Automata.{Automaton}
+use Rattle.vc_model.specs.Lists.{In}
+use Rattle.vc_model.specs.WeightSet.{WeightSet}
+use Rattle.vc_model.specs.Words.{Word}
+use Rattle.vc_ring.specs.Texts.{IsWeightByte}
+use Rattle.vc_daut.specs.Canonical.{automaton_lines, automaton_text}
+use Rattle.vc_daut.specs.Contexts as contexts
+use Rattle.vc_daut.specs.Heads.{HeadLine, head_line}
+use Rattle.vc_daut.specs.Lines.{lines_of}
+use Rattle.vc_daut.proofs.Recut.{text_cut}
+use Rattle.vc_daut.proofs.Relined.{body}
+use Rattle.vc_daut.proofs.Reread.{AreTextLines}
+use Rattle.vc_daut.proofs.Requoted.{context_quotable, context_line_read, context_line_stands}
+
+-- the context line
+abbrev pub context_line : List TapeSet → Weights → List ℕ
+context_line sets weights = codes "context = \"" ++ (context_text sets weights ++ codes "\"")
+
+module _ (letter : (s : Alphabet) (x : ℕ) → has_letter s x ≡ true → IsTrue (is_letter x))
+    (listed : (s : Alphabet) (x : ℕ) → In x (letters_of s) ↔ (has_letter s x ≡ true)) where
+  pub context_reread : (sets : List TapeSet) (weights : Weights) → contexts.context_text (context_line sets weights) ≡ Some (context_text sets weights)
+  context_reread sets weights = context_line_read (context_text sets weights) (context_quotable letter listed sets weights)
+
+  module _ {V : Type 0} (R : WeightSet V) (same : V → V → Bool) (canonical : V → List ℕ) (bytes : (w : V) → All IsWeightByte (canonical w))
+      (letters : (ss : List TapeSet) (w : Word) → IsOverSets ss w → IsTrue (is_of_letters w)) where
+    pub head_reread : (sets : List TapeSet) (weights : Weights) (a : Automaton V) → AreTextLines R sets (automaton_lines R same a)
+        → head_line 1 (lines_of (automaton_text R same canonical sets weights a))
+        ≡ Some (record { number = 1; line = context_line sets weights; behind = map (body R same canonical) (automaton_lines R same a) })
+    head_reread sets weights a h =
+        let ls : List (List ℕ) = map (body R same canonical) (automaton_lines R same a) in
+        ap (head_line 1) (text_cut R same canonical bytes sets letters weights a (context_quotable letter listed sets weights).shown h)
+        ∙ ap (λ b. if b then head_line (1 + 1) ls else Some (record { number = 1; line = context_line sets weights; behind = ls }))
+        (context_line_stands (context_text sets weights ++ codes "\""))
