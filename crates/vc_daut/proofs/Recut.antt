@@ -1,7 +1,7 @@
 -- The canonical text of an automaton is cut into its lines.
-use Rattle.std.proofs.Common.{◌≡◌, ℕ, ◌+◌, ◌≤◌, Bool, true, false, ◌&&◌, ◌==◌, List, [], ◌∷◌, ◌++◌, map, codes, All, refl, ap, ap₂, sym, ◌∙◌, arith, append_assoc}
-use Rattle.std.specs.Prelude.{IsTrue, nat_le, if◌then◌else◌}
-use Rattle.std.specs.List.{list_all, flat_map}
+use Rattle.std.proofs.Common.{◌≡◌, ℕ, ◌+◌, Bool, true, false, ◌==◌, List, [], ◌∷◌, ◌++◌, map, codes, All, refl, ap, ap₂, sym, ◌∙◌, append_assoc}
+use Rattle.std.specs.Prelude.{IsTrue, if◌then◌else◌}
+use Rattle.std.specs.List.{flat_map}
 use Rattle.std.proofs.lemmas.Bool.{eqb-true}
 use Rattle.vc_context.specs.Canonical.{context_text}
 use Rattle.vc_context.specs.declared.context.Weights.{Weights}
@@ -16,7 +16,7 @@ use Rattle.vc_daut.specs.Canonical.{TextLine, line_text, automaton_lines, automa
 use Rattle.vc_daut.specs.Lines.{is_line_feed, without_return, counted, with_first, lines_of}
 use Rattle.vc_daut.specs.Pieces.{pieces, onto_first}
 use Rattle.vc_daut.proofs.Relined.{body, line_is_body}
-use Rattle.vc_daut.proofs.Reread.{IsTextLine, AreTextLines}
+use Rattle.vc_daut.proofs.Reread.{AreTextLines}
 use Rattle.vc_daut.proofs.Shown.{is_shown, AreShown, shown_first, shown_append, body_shown}
 
 low_differs : (x c : ℕ) → is_shown c ≡ false → is_shown x ≡ true → (x == c) ≡ false

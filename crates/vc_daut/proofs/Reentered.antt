@@ -1,5 +1,5 @@
 -- Entries of the canonical text are tokens, and are read as what they say.
-use Rattle.std.proofs.Common.{◌≡◌, ◌≢◌, ℕ, ◌+◌, ◌≤◌, Bool, true, false, ◌&&◌, List, [], ◌∷◌, ◌++◌, length, map, codes, Option, Some, None, refl, ap, ap₂, sym, ◌∙◌, subst, arith, append_assoc, append-nil}
+use Rattle.std.proofs.Common.{◌≡◌, ℕ, ◌+◌, ◌≤◌, Bool, true, false, ◌&&◌, List, [], ◌∷◌, ◌++◌, length, map, codes, Option, Some, None, refl, ap, ap₂, sym, ◌∙◌, subst, arith, append-nil}
 use Rattle.std.specs.Prelude.{IsTrue, ⊤, if◌then◌else◌, unwrap_or}
 use Rattle.std.specs.Option.{is_some}
 use Rattle.std.specs.List.{list_all, flat_map}
@@ -12,16 +12,16 @@ use Rattle.vc_lex.specs.declared.token.TokenKind.TheVariants.{Weight, Comma}
 use Rattle.vc_model.specs.Automata.{Transition}
 use Rattle.vc_model.specs.Lists.{IsEqualityTest}
 use Rattle.vc_model.specs.WeightSet.{WeightSet}
-use Rattle.vc_model.specs.Words.{Tape, Word}
+use Rattle.vc_model.specs.Words.{Word}
 use Rattle.vc_ring.specs.Texts.{TextLaws}
-use Rattle.vc_daut.specs.Canonical.{weight_text, label_text, entry_text, entries_text, before_label}
+use Rattle.vc_daut.specs.Canonical.{weight_text, label_text, entry_text, entries_text}
 use Rattle.vc_daut.specs.Grammar.{inside, is_weight_kind, is_comma, is_label, is_entry, is_weight_or_none, entries_of, entry_weight, entry_label}
 use Rattle.vc_daut.specs.Labels.{label_words, IsLabelOver}
 use Rattle.vc_daut.specs.Marks.{Mark}
-use Rattle.vc_daut.specs.Meaning.{Given, moves_by, moves_with, weight_of, given_by_entry, given_by_entries}
+use Rattle.vc_daut.specs.Meaning.{moves_by, moves_with, weight_of, given_by_entries}
 use Rattle.vc_daut.specs.Pieces.{pieces, onto_first}
 use Rattle.vc_daut.specs.Spelling.{AreEntriesOver}
-use Rattle.vc_daut.proofs.Relabelled.{part_kind, label_pieces, bar_pieces, label_spread, label_set, label_is_label, label_over, label_is_words, kind_is_no_weight, labels_without_comma, AreNoCommas}
+use Rattle.vc_daut.proofs.Relabelled.{label_pieces, label_spread, label_set, label_is_label, label_over, label_is_words, kind_is_no_weight, labels_without_comma, AreNoCommas}
 use Rattle.vc_daut.proofs.Reread.{IsEntryOf, AreEntriesOf}
 use Rattle.vc_daut.proofs.Reweighed.{weight_token, weight_read}
 use Rattle.vc_daut.proofs.Tokened.{Piece, spread, marks_at, place_after, AreSet, IsClear, piece_set, spread_append, marks_append}
@@ -94,8 +94,8 @@ module _ {V : Type 0} (R : WeightSet V) (same : V → V → Bool) (canonical : V
     more_spread [] h = refl
     more_spread (t ∷ ts) h =
         ap (λ s. 44 ∷ s) (
-            spread_append (entry_of t) (more_pieces ts)
-            ∙ ap₂ (λ x y. x ++ y) (entry_spread canonical (same t.weight R.one) (codes " ") t.weight t.label (labelled sets t.label some h.0.label)) (more_spread ts h.1))
+        spread_append (entry_of t) (more_pieces ts)
+        ∙ ap₂ (λ x y. x ++ y) (entry_spread canonical (same t.weight R.one) (codes " ") t.weight t.label (labelled sets t.label some h.0.label)) (more_spread ts h.1))
 
     pub entries_spread : (t : Transition V) (ts : List (Transition V)) → AreEntriesOf R sets (t ∷ ts)
         → spread (entry_of t ++ more_pieces ts) ≡ codes " " ++ entries_text R same canonical (t ∷ ts)
@@ -199,9 +199,10 @@ module _ {V : Type 0} (R : WeightSet V) (spelled : List ℕ → Option V) (fit :
         let ms : List Mark = marks_at n (entry_of R same canonical t) in
         let place : ℕ = place_after n (entry_of R same canonical t) + 0 in
         let comma : Mark = record { kind = Comma; text = codes ","; at = place } in
-        let more = entries_read (place + 1) u ts h.1 in
-        (ms ∷ more.0,
+        let more = entries_read (place + 1) u ts h.1 in (
+          ms ∷ more.0,
           ap entries_of (marks_append n (entry_of R same canonical t) (more_pieces R same canonical (u ∷ ts)))
-          ∙ cut_at ms (marks_at (place + 1) (entry_of R same canonical u ++ more_pieces R same canonical ts)) comma r.commas refl
-          ∙ ap (λ es. ms ∷ es) more.1,
-          (r, more.2))
+              ∙ cut_at ms (marks_at (place + 1) (entry_of R same canonical u ++ more_pieces R same canonical ts)) comma r.commas refl
+              ∙ ap (λ es. ms ∷ es) more.1,
+          (r, more.2),
+        )

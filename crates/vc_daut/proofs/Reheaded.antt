@@ -1,7 +1,8 @@
--- The canonical text of an automaton: its head, its context and its lines are read as what they say.
-use Rattle.std.proofs.Common.{◌≡◌, ℕ, ◌+◌, ◌↔◌, Bool, true, List, [], ◌∷◌, ◌++◌, map, codes, All, Option, Some, refl, ap, ◌∙◌}
+-- The canonical text of an automaton is read: its head, its context and its lines.
+use Rattle.std.proofs.Common.{◌≡◌, ℕ, ◌+◌, ◌≤◌, ◌↔◌, Bool, true, List, [], ◌∷◌, ◌++◌, length, map, codes, All, Option, Some, ap, ◌∙◌}
 use Rattle.std.specs.Prelude.{IsTrue, if◌then◌else◌}
 use Rattle.vc_context.specs.Canonical.{context_text}
+use Rattle.vc_context.specs.Spelling.{SpellsContext}
 use Rattle.vc_context.specs.declared.context.Weights.{Weights}
 use Rattle.vc_label.specs.Alphabets.{has_letter, letters_of}
 use Rattle.vc_label.specs.Letters.{is_letter, is_of_letters}
@@ -9,17 +10,20 @@ use Rattle.vc_label.specs.Sets.{IsOverSets}
 use Rattle.vc_label.specs.declared.alphabet.Alphabet.{Alphabet}
 use Rattle.vc_label.specs.declared.tape_set.TapeSet.{TapeSet}
 use Rattle.vc_model.specs.Automata.{Automaton}
-use Rattle.vc_model.specs.Lists.{In}
+use Rattle.vc_model.specs.Lists.{In, IsEqualityTest}
 use Rattle.vc_model.specs.WeightSet.{WeightSet}
 use Rattle.vc_model.specs.Words.{Word}
-use Rattle.vc_ring.specs.Texts.{IsWeightByte}
+use Rattle.vc_ring.specs.Texts.{TextLaws, IsWeightByte}
 use Rattle.vc_daut.specs.Canonical.{automaton_lines, automaton_text}
 use Rattle.vc_daut.specs.Contexts as contexts
-use Rattle.vc_daut.specs.Heads.{HeadLine, head_line}
+use Rattle.vc_daut.specs.Heads.{head_line}
+use Rattle.vc_daut.specs.Grammar.{Line}
 use Rattle.vc_daut.specs.Lines.{lines_of}
+use Rattle.vc_daut.specs.Marks.{Mark, HasMarks, marks_of}
+use Rattle.vc_daut.specs.Spelling.{AreLines, Spells, SpellsAutomaton}
 use Rattle.vc_daut.proofs.Recut.{text_cut}
-use Rattle.vc_daut.proofs.Relined.{body}
-use Rattle.vc_daut.proofs.Reread.{AreTextLines}
+use Rattle.vc_daut.proofs.Relined.{body, are_reread}
+use Rattle.vc_daut.proofs.Reread.{AreTextLines, AreReread}
 use Rattle.vc_daut.proofs.Requoted.{context_quotable, context_line_read, context_line_stands}
 
 -- the context line
@@ -41,3 +45,26 @@ module _ (letter : (s : Alphabet) (x : ℕ) → has_letter s x ≡ true → IsTr
         ap (head_line 1) (text_cut R same canonical bytes sets letters weights a (context_quotable letter listed sets weights).shown h)
         ∙ ap (λ b. if b then head_line (1 + 1) ls else Some (record { number = 1; line = context_line sets weights; behind = ls }))
         (context_line_stands (context_text sets weights ++ codes "\""))
+
+  -- ---- the whole text
+
+  module _ {V : Type 0} (R : WeightSet V) (same : V → V → Bool) (is_same : IsEqualityTest same)
+      (spelled : List ℕ → Option V) (fit : List ℕ → Bool) (canonical : V → List ℕ) (laws : TextLaws R spelled fit canonical)
+      (letters : (ss : List TapeSet) (w : Word) → IsOverSets ss w → IsTrue (is_of_letters w))
+      (complete : (line : List ℕ) (ms : List Mark) → HasMarks line 0 ms → marks_of line ≡ Some ms) where
+    -- where lines that say what those of the automaton say spell it, its canonical text spells it with its context
+    pub text_reread : (sets : List TapeSet) (weights : Weights) (a : Automaton V) → 1 ≤ length sets → AreTextLines R sets (automaton_lines R same a)
+        → SpellsContext (context_text sets weights) sets weights
+        → ((texts : List (List ℕ)) (lines : List Line) → AreLines spelled texts lines → AreReread R spelled sets (automaton_lines R same a) lines → Spells R spelled sets texts a)
+        → SpellsAutomaton R spelled (automaton_text R same canonical sets weights a) sets weights a
+    text_reread sets weights a some h spells respelled =
+        let read = are_reread R same is_same spelled fit canonical laws sets some letters complete (automaton_lines R same a) h in
+        let texts : List (List ℕ) = map (body R same canonical) (automaton_lines R same a) in
+        record {
+          head = record { number = 1; line = context_line sets weights; behind = texts };
+          context = context_text sets weights;
+          is_head = head_reread R same canonical laws.bytes letters sets weights a h;
+          is_context = context_reread sets weights;
+          spells = spells;
+          behind = respelled texts read.0 read.1 read.2;
+        }

@@ -1,6 +1,7 @@
 -- Labels of the canonical text are tokens, and are read as what they say.
-use Rattle.std.proofs.Common.{◌≡◌, ◌≢◌, ℕ, ◌+◌, Bool, true, false, ◌&&◌, ◌||◌, List, [], ◌∷◌, ◌++◌, length, map, codes, refl, ap, ap₂, sym, ◌∙◌, subst, append_assoc, append-nil, MatchBool}
-use Rattle.std.specs.Prelude.{IsTrue, ⊤, if◌then◌else◌}
+use Rattle.std.proofs.Common.{◌≡◌, ℕ, ◌+◌, Bool, true, false, ◌&&◌, ◌||◌, List, [], ◌∷◌, ◌++◌, length, map, codes, refl, ap, ap₂, sym, subst, MatchBool}
+use Rattle.std.specs.Prelude.{⊤, if◌then◌else◌}
+use Rattle.std.proofs.lemmas.Bool.{and_parts}
 use Rattle.std.specs.List.{list_all, flat_map}
 use Rattle.vc_label.specs.Letters.{are_letters, is_of_letters}
 use Rattle.vc_label.specs.Sets.{IsOverSets}
@@ -12,12 +13,12 @@ use Rattle.vc_lex.specs.declared.token.Mode.TheVariants.{Line}
 use Rattle.vc_lex.specs.declared.token.TokenKind.{TokenKind}
 use Rattle.vc_lex.specs.declared.token.TokenKind.TheVariants.{One, Run, Bar}
 use Rattle.vc_model.specs.Words.{Tape, Word}
-use Rattle.vc_daut.specs.Canonical.{part_text, label_text, listed}
+use Rattle.vc_daut.specs.Canonical.{part_text, label_text}
 use Rattle.vc_daut.specs.Grammar.{is_part_kind, is_class_kind, is_weight_kind, is_comma_kind, is_comma, are_parts, is_class, is_label}
-use Rattle.vc_daut.specs.Labels.{tape_text, tape_of, parts_word, label_words, IsLabelOver, IsClassOver, class_body, class_words}
+use Rattle.vc_daut.specs.Labels.{tape_text, parts_word, label_words, IsLabelOver, IsClassOver, class_body, class_words}
 use Rattle.vc_daut.specs.Marks.{Mark}
 use Rattle.vc_daut.proofs.Relettered.{letters_several, letters_some, letters_ink, letters_read}
-use Rattle.vc_daut.proofs.Tokened.{Piece, spread, marks_at, AreSet, IsInk, IsClear, run_ends, piece_set, spread_append}
+use Rattle.vc_daut.proofs.Tokened.{Piece, spread, marks_at, AreSet, IsInk, IsClear, run_ends, piece_set}
 
 abbrev pub part_kind : Tape → TokenKind
 part_kind [] = One
@@ -66,11 +67,6 @@ part_ends : (a : Tape) (rest : List ℕ) → IsClear rest → EndsBefore (part_k
 part_ends [] rest clear = tt
 part_ends (x ∷ a) rest clear = run_ends rest clear
 
-both_true : (a b : Bool) → a && b ≡ true → (a ≡ true) × (b ≡ true)
-both_true true true h = (refl, refl)
-both_true true false h = absurd (cc)
-both_true false b h = absurd (cc)
-
 bars_clear : (w : Word) (rest : List Piece) → IsClear (spread rest) → IsClear (spread (bar_pieces w ++ rest))
 bars_clear [] rest clear = clear
 bars_clear (a ∷ w) rest clear = (bar_is_not_plain, refl)
@@ -78,7 +74,7 @@ bars_clear (a ∷ w) rest clear = (bar_is_not_plain, refl)
 bars_set : (w : Word) (rest : List Piece) → is_of_letters w ≡ true → AreSet rest → IsClear (spread rest) → AreSet (bar_pieces w ++ rest)
 bars_set [] rest h set clear = set
 bars_set (a ∷ w) rest h set clear =
-    let b = both_true (are_letters a) (is_of_letters w) h in
+    let b = and_parts (are_letters a) (is_of_letters w) h in
     let behind : List ℕ = spread (bar_pieces w ++ rest) in (
       piece_set [] (codes "|") (part_text a ++ behind) Bar refl (λ r. refl) refl tt,
       (piece_set [] (part_text a) behind (part_kind a) refl (part_ink a) (part_token a b.0) (part_ends a behind (bars_clear w rest clear)), bars_set w rest b.1 set clear),
@@ -87,7 +83,7 @@ bars_set (a ∷ w) rest h set clear =
 pub label_set : (blanks : List ℕ) (a : Tape) (w : Word) (rest : List Piece) → list_all is_blank blanks ≡ true → is_of_letters (a ∷ w) ≡ true → AreSet rest → IsClear (spread rest)
     → AreSet (label_pieces blanks (a ∷ w) ++ rest)
 label_set blanks a w rest h letters set clear =
-    let b = both_true (are_letters a) (is_of_letters w) letters in
+    let b = and_parts (are_letters a) (is_of_letters w) letters in
     let behind : List ℕ = spread (bar_pieces w ++ rest) in
     (piece_set blanks (part_text a) behind (part_kind a) h (part_ink a) (part_token a b.0) (part_ends a behind (bars_clear w rest clear)), bars_set w rest b.1 set clear)
 

@@ -1,31 +1,28 @@
 -- Digits and letters of the canonical text are tokens, and are read as what they say.
-use Rattle.std.proofs.Common.{◌≡◌, ◌≢◌, ℕ, zero, suc, ◌+◌, ◌/◌, ◌%◌, ◌<◌, ◌≤◌, Bool, true, false, not, ◌&&◌, ◌||◌, ◌==◌, cond, List, [], ◌∷◌, ◌++◌, length, map, refl, ap, sym, ◌∙◌, subst, inl, inr, arith, mod-lt, append_assoc}
-use Rattle.std.specs.Prelude.{nat_le, nat_lt, if◌then◌else◌, IsTrue}
-use Rattle.std.specs.List.{prefix_len, list_all, flat_map}
+use Rattle.std.proofs.Common.{◌≡◌, ◌≢◌, ℕ, zero, suc, ◌+◌, ◌/◌, ◌%◌, ◌<◌, Bool, true, false, not, ◌&&◌, ◌||◌, ◌==◌, List, [], ◌∷◌, ◌++◌, map, refl, ap, sym, ◌∙◌, inl, inr, arith, mod-lt}
+use Rattle.std.specs.Prelude.{nat_le, if◌then◌else◌}
+use Rattle.std.specs.List.{list_all, flat_map}
 use Rattle.std.specs.Fmt.{decimal, digits, digits_onto, digit_glyph}
-use Rattle.std.proofs.lemmas.Bool.{eqb-true, le-leb, lt-ltb}
+use Rattle.std.proofs.lemmas.Bool.{and_parts, eqb-true, le-leb, lt-ltb}
 use Rattle.vc_context.specs.Canonical.{letter_text}
 use Rattle.vc_label.specs.Letters.{is_letter, are_letters}
 use Rattle.vc_lex.specs.Grammar.{SpellsLetter, IsLetter, Several, Each, joined}
 use Rattle.vc_lex.specs.Letters.{is_plain, is_escaped}
 use Rattle.vc_lex.specs.Scans.{is_blank}
+use Rattle.vc_lex.proofs.Begun.{slash_is_not_plain}
 use Rattle.vc_model.specs.Words.{Tape}
 use Rattle.vc_daut.specs.Labels.{unescaped}
 use Rattle.vc_daut.proofs.Tokened.{IsInk, ink_at}
 
 -- ---- plain letters
 
-blank_is_not_plain : is_plain 32 ≡ false
+pub blank_is_not_plain : is_plain 32 ≡ false
 unfolding is_plain
 blank_is_not_plain = refl
 
 tab_is_not_plain : is_plain 9 ≡ false
 unfolding is_plain
 tab_is_not_plain = refl
-
-slash_is_not_plain : is_plain 92 ≡ false
-unfolding is_plain
-slash_is_not_plain = refl
 
 -- a plain letter is another byte than one that is not plain
 pub plain_differs : (x c : ℕ) → is_plain c ≡ false → is_plain x ≡ true → (x == c) ≡ false
@@ -45,18 +42,10 @@ plain_is_ink x plain = neither (x == 32) (x == 9) (plain_differs x 32 blank_is_n
 pub plain_no_slash : (x : ℕ) → is_plain x ≡ true → (x == 92) ≡ false
 plain_no_slash x plain = plain_differs x 92 slash_is_not_plain plain
 
-both_true : (a b : Bool) → a && b ≡ true → (a ≡ true) × (b ≡ true)
-both_true true true h = (refl, refl)
-both_true true false h = absurd (cc)
-both_true false b h = absurd (cc)
-
 -- plain letters are letters of the grammar
-ones : List ℕ → List (List ℕ)
-ones s = map (λ x. x ∷ []) s
-
 each_one : (s : List ℕ) → list_all is_plain s ≡ true → Each IsLetter (map (λ x. x ∷ []) s)
 each_one [] h = tt
-each_one (x ∷ s) h = let b = both_true (is_plain x) (list_all is_plain s) h in ((x, inl (b.0, refl)), each_one s b.1)
+each_one (x ∷ s) h = let b = and_parts (is_plain x) (list_all is_plain s) h in ((x, inl (b.0, refl)), each_one s b.1)
 
 joined_ones : (s : List ℕ) → s ≡ joined (map (λ x. x ∷ []) s)
 joined_ones [] = refl
@@ -67,7 +56,7 @@ plain_letters s h = (map (λ x. x ∷ []) s, joined_ones s, each_one s h)
 
 pub plain_ink : (s : List ℕ) → list_all is_plain s ≡ true → s ≢ [] → IsInk s
 plain_ink [] h some = absurd (some refl)
-plain_ink (x ∷ s) h some = ink_at x s (plain_is_ink x (both_true (is_plain x) (list_all is_plain s) h).0)
+plain_ink (x ∷ s) h some = ink_at x s (plain_is_ink x (and_parts (is_plain x) (list_all is_plain s) h).0)
 
 -- ---- numbers
 
@@ -144,7 +133,7 @@ letter_spelled x h = go (is_plain x) refl
 
 each_letter : (a : Tape) → are_letters a ≡ true → Each IsLetter (map letter_text a)
 each_letter [] h = tt
-each_letter (x ∷ a) h = let b = both_true (is_letter x) (are_letters a) h in ((x, letter_spelled x b.0), each_letter a b.1)
+each_letter (x ∷ a) h = let b = and_parts (is_letter x) (are_letters a) h in ((x, letter_spelled x b.0), each_letter a b.1)
 
 joined_letters : (a : Tape) → flat_map letter_text a ≡ joined (map letter_text a)
 joined_letters [] = refl

@@ -1,13 +1,12 @@
 -- Lines of the canonical text are read as what they say.
-use Rattle.std.proofs.Common.{◌≡◌, ◌≢◌, ℕ, ◌+◌, ◌≤◌, Bool, true, false, ◌&&◌, List, [], ◌∷◌, ◌++◌, length, map, codes, Option, Some, None, refl, ap, ap₂, sym, ◌∙◌, subst, append_assoc, append-nil}
-use Rattle.std.specs.Prelude.{IsTrue, ⊤, if◌then◌else◌, unwrap_or}
+use Rattle.std.proofs.Common.{◌≡◌, ℕ, ◌+◌, ◌≤◌, Bool, true, false, ◌&&◌, List, [], ◌∷◌, ◌++◌, length, map, codes, Option, Some, None, refl, ap, sym, ◌∙◌, subst, append_assoc, append-nil}
+use Rattle.std.specs.Prelude.{IsTrue, if◌then◌else◌, unwrap_or}
 use Rattle.std.specs.Fmt.{decimal}
 use Rattle.std.specs.Option.{is_some, option_and_then}
 use Rattle.std.specs.List.{list_all}
 use Rattle.vc_label.specs.Letters.{is_of_letters}
 use Rattle.vc_label.specs.Sets.{IsOverSets}
 use Rattle.vc_label.specs.declared.tape_set.TapeSet.{TapeSet}
-use Rattle.vc_lex.specs.Letters.{is_plain}
 use Rattle.vc_lex.specs.Scans.{is_blank}
 use Rattle.vc_lex.specs.declared.token.TokenKind.TheVariants.{Run, Weight, Arrow, Dollar}
 use Rattle.vc_model.specs.Automata.{Transition}
@@ -16,13 +15,13 @@ use Rattle.vc_model.specs.WeightSet.{WeightSet}
 use Rattle.vc_model.specs.Words.{Word}
 use Rattle.vc_ring.specs.Texts.{TextLaws}
 use Rattle.vc_daut.specs.Canonical.{TextLine, begins_line, moves_line, ends_line, state_line, weight_text, behind_state, entries_text, line_text}
-use Rattle.vc_daut.specs.Grammar.{Line, inside, is_state, is_dollar_kind, is_end, are_entries, is_entry, arrow_line, line_of, line_at, entries_of}
+use Rattle.vc_daut.specs.Grammar.{Line, is_state, is_dollar_kind, is_end, are_entries, is_entry, arrow_line, line_of, line_at}
 use Rattle.vc_daut.specs.Grammar as grammar
 use Rattle.vc_daut.specs.Marks.{Mark, HasMarks, marks_of}
-use Rattle.vc_daut.specs.Meaning.{Given, begins, ends, only, weight_of, given_by, given_by_entries}
+use Rattle.vc_daut.specs.Meaning.{begins, ends, only, weight_of, given_by_entries}
 use Rattle.vc_daut.specs.Spelling.{AreLines, AreEntriesOver}
 use Rattle.vc_daut.proofs.Reentered.{weight_piece, entry_of, more_pieces, entries_spread, entries_set, entries_read, entries_good, entries_over, entries_given}
-use Rattle.vc_daut.proofs.Relettered.{number_plain, number_some, plain_letters, plain_ink}
+use Rattle.vc_daut.proofs.Relettered.{blank_is_not_plain, number_plain, number_some, plain_letters, plain_ink}
 use Rattle.vc_daut.proofs.Reread.{AreEntriesOf, IsTextLine, IsReread, AreReread, AreTextLines}
 use Rattle.vc_daut.proofs.Reweighed.{weight_token, weight_read}
 use Rattle.vc_daut.proofs.Tokened.{Piece, spread, marks_at, AreSet, IsSet, IsClear, run_ends, piece_set, line_marks}
@@ -45,10 +44,6 @@ module _ {V : Type 0} (R : WeightSet V) (same : V → V → Bool) (canonical : V
   line_is_body (state_line p) = refl
 
 -- ---- the tokens of lines
-
-blank_is_not_plain : is_plain 32 ≡ false
-unfolding is_plain
-blank_is_not_plain = refl
 
 abbrev state_piece : List ℕ → ℕ → Piece
 state_piece blanks p = record { blanks = blanks; kind = Run; text = decimal p }
@@ -159,7 +154,7 @@ module _ {V : Type 0} (R : WeightSet V) (same : V → V → Bool) (is_same : IsE
       let text : codes "$ -> " ++ (decimal p ++ behind_state R same canonical w) ≡ spread ps = ap (λ s. codes "$ -> " ++ (decimal p ++ s)) (sym (end_spread canonical b w)) in
       let set : AreSet ps = (dollar_set [] _ refl, (arrow_set _, (state_set (codes " ") p (spread qs) refl (end_clear canonical b w), end_set R spelled fit canonical laws b w h))) in
       let is : line_of spelled (marks_at 0 ps) ≡ Some (grammar.initial_at m rest) =
-          initial_is spelled (record { kind = Dollar; text = codes "$"; at = 0 }) m rest refl (number_plain p) (end_good R spelled fit canonical laws b (place + length (decimal p)) w h) in (
+      initial_is spelled (record { kind = Dollar; text = codes "$"; at = 0 }) m rest refl (number_plain p) (end_good R spelled fit canonical laws b (place + length (decimal p)) w h) in (
         grammar.initial_at m rest,
         found _ ps (grammar.initial_at m rest) text set is,
         record {
@@ -181,7 +176,7 @@ module _ {V : Type 0} (R : WeightSet V) (same : V → V → Bool) (is_same : IsE
       let text : decimal p ++ (codes " -> $" ++ behind_state R same canonical w) ≡ spread ps = ap (λ s. decimal p ++ (codes " -> $" ++ s)) (sym (end_spread canonical b w)) in
       let set : AreSet ps = (state_set [] p _ refl (blank_is_not_plain, refl), (arrow_set _, (dollar_set (codes " ") (spread qs) refl, end_set R spelled fit canonical laws b w h))) in
       let is : line_of spelled (marks_at 0 ps) ≡ Some (grammar.final_at m rest) =
-          final_is spelled m (record { kind = Dollar; text = codes "$"; at = place }) rest refl (number_plain p) refl (end_good R spelled fit canonical laws b (place + 1) w h) in (
+      final_is spelled m (record { kind = Dollar; text = codes "$"; at = place }) rest refl (number_plain p) refl (end_good R spelled fit canonical laws b (place + 1) w h) in (
         grammar.final_at m rest,
         found _ ps (grammar.final_at m rest) text set is,
         record {

@@ -1,16 +1,16 @@
 -- The context line of the canonical text is read as the context.
-use Rattle.std.proofs.Common.{◌≡◌, ℕ, ◌+◌, ◌≤◌, ◌<◌, ◌↔◌, Bool, true, false, not, ◌&&◌, ◌||◌, ◌==◌, List, [], ◌∷◌, ◌++◌, length, take, drop, codes, Option, Some, None, refl, ap, ap₂, sym, ◌∙◌, inl, inr, arith, append_assoc, length-append, add-zero}
+use Rattle.std.proofs.Common.{◌≡◌, ℕ, ◌+◌, ◌<◌, ◌↔◌, Bool, true, false, not, ◌&&◌, ◌==◌, List, [], ◌∷◌, ◌++◌, length, take, drop, codes, Some, None, refl, ap, ap₂, sym, ◌∙◌, inl, inr, arith, append_assoc, length-append, add-zero}
 use Rattle.std.specs.Prelude.{IsTrue, nat_le, nat_lt, if◌then◌else◌}
 use Rattle.std.specs.Option.{option_map_or}
 use Rattle.std.specs.List.{list_all, flat_map}
 use Rattle.std.proofs.Math.Seq.{take-append_seam, drop-append_seam}
-use Rattle.std.proofs.lemmas.Bool.{lt-ltb}
+use Rattle.std.proofs.lemmas.Bool.{and_parts, lt-ltb}
 use Rattle.vc_context.specs.Canonical.{letter_text, kind_name, tape_text, comma_text, labels_text, context_text}
 use Rattle.vc_context.specs.Spelling.{weights_name}
 use Rattle.vc_context.specs.declared.context.Weights.{Weights}
 use Rattle.vc_context.specs.declared.context.Weights.TheVariants.{B, F2, Z, Q, Nmin}
 use Rattle.vc_label.specs.Alphabets.{has_letter, letters_of}
-use Rattle.vc_label.specs.Letters.{is_letter, are_letters}
+use Rattle.vc_label.specs.Letters.{is_letter}
 use Rattle.vc_label.specs.declared.alphabet.Alphabet.{Alphabet}
 use Rattle.vc_label.specs.declared.tape_set.TapeKind.{TapeKind}
 use Rattle.vc_label.specs.declared.tape_set.TapeKind.TheVariants.{Letters, Nullable, Words}
@@ -18,7 +18,6 @@ use Rattle.vc_label.specs.declared.tape_set.TapeSet.{TapeSet}
 use Rattle.vc_lex.specs.Letters.{is_plain, is_escaped}
 use Rattle.vc_lex.specs.Fronts.{front}
 use Rattle.vc_lex.specs.Scans.{letter_width, line_token}
-use Rattle.vc_lex.specs.declared.scan.Scan.{Scan}
 use Rattle.vc_lex.specs.declared.scan.Scan.TheVariants.{Found}
 use Rattle.vc_lex.specs.declared.token.TokenKind.TheVariants.{Run}
 use Rattle.vc_lex.proofs.Begun.{letter_begins}
@@ -56,25 +55,20 @@ open_passed x [] e f = ap (λ b. if b then 0 else 1) e
 open_passed x (y ∷ s) e f =
     ap₂ (λ b c. if b then 0 else (if c && is_escaped y then 2 + before begins_quote s else 1 + before begins_quote (y ∷ s))) e f
 
-three : (a b c : Bool) → a && (not b && not c) ≡ true → (a ≡ true) × (b ≡ false) × (c ≡ false)
-three true false false h = (refl, refl, refl)
-three true false true h = absurd (cc)
-three true true c h = absurd (cc)
-three false b c h = absurd (cc)
+open_parts : (a b c : Bool) → a && (not b && not c) ≡ true → (a ≡ true) × (b ≡ false) × (c ≡ false)
+open_parts true false false h = (refl, refl, refl)
+open_parts true false true h = absurd (cc)
+open_parts true true c h = absurd (cc)
+open_parts false b c h = absurd (cc)
 
 one_quotable : (x : ℕ) → is_shown x ≡ true → (x == 34) ≡ false → (x == 92) ≡ false → IsQuotable (x ∷ [])
 one_quotable x s e f = record { shown = ap (λ b. b && true) s; passed = λ rest. open_passed x rest e f }
 
-both_true : (a b : Bool) → a && b ≡ true → (a ≡ true) × (b ≡ true)
-both_true true true h = (refl, refl)
-both_true true false h = absurd (cc)
-both_true false b h = absurd (cc)
-
 open_quotable : (s : List ℕ) → list_all is_open s ≡ true → IsQuotable s
 open_quotable [] h = quotable_none
 open_quotable (x ∷ s) h =
-    let b = both_true (is_open x) (list_all is_open s) h in
-    let t = three (nat_le 32 x) (x == 34) (x == 92) b.0 in
+    let b = and_parts (is_open x) (list_all is_open s) h in
+    let t = open_parts (nat_le 32 x) (x == 34) (x == 92) b.0 in
     quotable_append (x ∷ []) s (one_quotable x t.0 t.1 t.2) (open_quotable s b.1)
 
 -- ---- letters

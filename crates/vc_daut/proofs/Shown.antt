@@ -1,9 +1,9 @@
 -- The bytes of the canonical text stand on one line: no line feed and no carriage return is among them.
-use Rattle.std.proofs.Common.{◌≡◌, ◌≢◌, ℕ, ◌+◌, ◌≤◌, Bool, true, false, ◌&&◌, ◌||◌, ◌==◌, List, [], ◌∷◌, ◌++◌, map, codes, All, refl, ap, sym, ◌∙◌, arith}
+use Rattle.std.proofs.Common.{◌≡◌, ℕ, ◌+◌, ◌≤◌, Bool, true, false, ◌&&◌, ◌||◌, ◌==◌, List, [], ◌∷◌, ◌++◌, map, codes, All, refl, ap, ◌∙◌, arith}
 use Rattle.std.specs.Prelude.{IsTrue, nat_le, if◌then◌else◌}
 use Rattle.std.specs.Fmt.{decimal}
 use Rattle.std.specs.List.{list_all, flat_map}
-use Rattle.std.proofs.lemmas.Bool.{eqb-true, leb-true, le-leb}
+use Rattle.std.proofs.lemmas.Bool.{and_parts, eqb-true, leb-true, le-leb}
 use Rattle.std.proofs.lemmas.List.Elements.{All-head, All-tail}
 use Rattle.vc_context.specs.Canonical.{letter_text}
 use Rattle.vc_label.specs.Letters.{is_letter, are_letters, is_of_letters}
@@ -13,8 +13,8 @@ use Rattle.vc_lex.specs.Letters.{is_plain}
 use Rattle.vc_model.specs.Automata.{Transition}
 use Rattle.vc_model.specs.WeightSet.{WeightSet}
 use Rattle.vc_model.specs.Words.{Tape, Word}
-use Rattle.vc_ring.specs.Texts.{TextLaws, IsWeightByte}
-use Rattle.vc_daut.specs.Canonical.{TextLine, begins_line, moves_line, ends_line, state_line, listed, part_text, label_text, weight_text, before_label, behind_state, entry_text, entries_text}
+use Rattle.vc_ring.specs.Texts.{IsWeightByte}
+use Rattle.vc_daut.specs.Canonical.{TextLine, begins_line, moves_line, ends_line, state_line, part_text, label_text, weight_text, before_label, behind_state, entry_text, entries_text}
 use Rattle.vc_daut.proofs.Relettered.{number_plain}
 use Rattle.vc_daut.proofs.Relined.{body}
 use Rattle.vc_daut.proofs.Reread.{AreEntriesOf, IsTextLine}
@@ -29,13 +29,8 @@ AreShown s = list_all is_shown s ≡ true
 pub shown_cons : (x : ℕ) (s : List ℕ) → is_shown x ≡ true → AreShown s → AreShown (x ∷ s)
 shown_cons x s e h = ap (λ b. b && list_all is_shown s) e ∙ h
 
-both_true : (a b : Bool) → a && b ≡ true → (a ≡ true) × (b ≡ true)
-both_true true true h = (refl, refl)
-both_true true false h = absurd (cc)
-both_true false b h = absurd (cc)
-
 pub shown_first : (x : ℕ) (s : List ℕ) → AreShown (x ∷ s) → (is_shown x ≡ true) × AreShown s
-shown_first x s h = both_true (is_shown x) (list_all is_shown s) h
+shown_first x s h = and_parts (is_shown x) (list_all is_shown s) h
 
 pub shown_append : (a b : List ℕ) → AreShown a → AreShown b → AreShown (a ++ b)
 shown_append [] b h k = k
@@ -51,7 +46,7 @@ four P false false false true e f g h i = i refl
 four P false false false false e f g h i = absurd (cc)
 
 from_low : (low x : ℕ) (b : Bool) → 32 ≤ low → nat_le low x && b ≡ true → is_shown x ≡ true
-from_low low x b h e = let below = leb-true low x (both_true (nat_le low x) b e).0 in le-leb 32 x (omega (arith, h, below))
+from_low low x b h e = let below = leb-true low x (and_parts (nat_le low x) b e).0 in le-leb 32 x (omega (arith, h, below))
 
 plain_shown : (x : ℕ) → is_plain x ≡ true → is_shown x ≡ true
 unfolding is_plain
@@ -62,7 +57,7 @@ plain_shown x h =
 
 plains_shown : (s : List ℕ) → list_all is_plain s ≡ true → AreShown s
 plains_shown [] h = refl
-plains_shown (x ∷ s) h = let b = both_true (is_plain x) (list_all is_plain s) h in shown_cons x s (plain_shown x b.0) (plains_shown s b.1)
+plains_shown (x ∷ s) h = let b = and_parts (is_plain x) (list_all is_plain s) h in shown_cons x s (plain_shown x b.0) (plains_shown s b.1)
 
 pub number_shown : (n : ℕ) → AreShown (decimal n)
 number_shown n = plains_shown (decimal n) (number_plain n)
@@ -80,7 +75,7 @@ letter_shown x h = go (is_plain x)
 pub letters_shown : (a : Tape) → are_letters a ≡ true → AreShown (flat_map letter_text a)
 letters_shown [] h = refl
 letters_shown (x ∷ a) h =
-    let b = both_true (is_letter x) (are_letters a) h in
+    let b = and_parts (is_letter x) (are_letters a) h in
     shown_append (letter_text x) (flat_map letter_text a) (letter_shown x b.0) (letters_shown a b.1)
 
 part_shown : (a : Tape) → are_letters a ≡ true → AreShown (part_text a)
@@ -90,13 +85,13 @@ part_shown (x ∷ a) h = letters_shown (x ∷ a) h
 parts_shown : (w : Word) → is_of_letters w ≡ true → AreShown (flat_map (λ t. codes "|" ++ t) (map part_text w))
 parts_shown [] h = refl
 parts_shown (a ∷ w) h =
-    let b = both_true (are_letters a) (is_of_letters w) h in
+    let b = and_parts (are_letters a) (is_of_letters w) h in
     shown_append (codes "|" ++ part_text a) (flat_map (λ t. codes "|" ++ t) (map part_text w)) (shown_append (codes "|") (part_text a) refl (part_shown a b.0)) (parts_shown w b.1)
 
 label_shown : (w : Word) → is_of_letters w ≡ true → AreShown (label_text w)
 label_shown [] h = refl
 label_shown (a ∷ w) h =
-    let b = both_true (are_letters a) (is_of_letters w) h in
+    let b = and_parts (are_letters a) (is_of_letters w) h in
     shown_append (part_text a) (flat_map (λ t. codes "|" ++ t) (map part_text w)) (part_shown a b.0) (parts_shown w b.1)
 
 -- ---- weights

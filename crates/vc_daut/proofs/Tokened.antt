@@ -1,9 +1,9 @@
 -- Texts that are tokens with blanks before them.
-use Rattle.std.proofs.Common.{◌≡◌, ℕ, ◌+◌, ◌-◌, ◌≤◌, Bool, true, false, ◌&&◌, ◌||◌, ◌==◌, cond, List, [], ◌∷◌, ◌++◌, length, take, drop, Option, Some, refl, ap, ap₂, sym, ◌∙◌, subst, inl, inr, arith, add-zero, append_assoc, length-append}
-use Rattle.std.specs.Prelude.{slice_range, ⊤}
+use Rattle.std.proofs.Common.{◌≡◌, ℕ, ◌+◌, ◌-◌, Bool, true, false, ◌&&◌, ◌==◌, cond, List, [], ◌∷◌, ◌++◌, length, take, drop, Some, refl, ap, sym, ◌∙◌, subst, inl, inr, arith, add-zero, append_assoc, length-append}
+use Rattle.std.specs.Prelude.{⊤}
 use Rattle.std.specs.List.{prefix_len, list_all}
 use Rattle.std.proofs.Math.Seq.{take-append_seam, drop-append_seam}
-use Rattle.vc_lex.specs.Grammar.{SpellsLetter, IsLetter, IsTokenText, EndsBefore, BeginsToken}
+use Rattle.vc_lex.specs.Grammar.{IsTokenText, EndsBefore, BeginsToken}
 use Rattle.vc_lex.specs.Letters.{is_plain}
 use Rattle.vc_lex.specs.Scans.{is_blank}
 use Rattle.vc_lex.specs.declared.token.Mode.TheVariants.{Line}
