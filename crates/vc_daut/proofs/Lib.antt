@@ -25,3 +25,6 @@ pub mod Printed
 pub mod Grouped
 pub mod Marked
 pub mod Reread
+mod Escaped
+mod Unique
+mod Written
