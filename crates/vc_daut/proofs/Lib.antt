@@ -28,3 +28,4 @@ pub mod Reread
 mod Escaped
 mod Unique
 mod Written
+mod Exclusive

@@ -1,8 +1,10 @@
-ghost use Rattle.std.specs.Prelude.{◌≡◌, ℕ, Bool, List, Option, Some};
+ghost use Rattle.std.specs.Prelude.{◌≡◌, ℕ, Bool, List, Option, Some, Result};
 ghost use Rattle.vc_aut.specs.Labelled.{Labelled};
-ghost use Rattle.vc_daut.specs.Answers.{IsBuilt};
+ghost use Rattle.vc_daut.specs.Answers.{IsBuilt, IsReadBehind};
+ghost use Rattle.vc_daut.specs.declared.fault.DautFault.{DautFault};
 ghost use Rattle.vc_daut.specs.Heads.{HeadLine};
 ghost use Rattle.vc_daut.specs.Marks.{HasMarks, Mark, marks_of};
+ghost use Rattle.vc_daut.specs.Readings.{IsSameReading};
 ghost use Rattle.vc_daut.specs.Spelling.{Spells};
 ghost use Rattle.vc_label.specs.declared.tape_set.TapeSet.{TapeSet};
 ghost use Rattle.vc_model.specs.Lists.{IsEqualityTest};
@@ -27,4 +29,14 @@ pub fn lines_have_their_tokens()
     ensures complete { (line : List ℕ) (ms : List Mark) → HasMarks line 0 ms → marks_of line ≡ Some ms }
 {
     tokens_follow_the_grammar();
+}
+
+/// What the reader may answer on one text: want of memory apart, one automaton, one line that is outside the grammar, one
+/// label that is not in the sets; or else a number or a sum that does not fit, or a limit that is passed.
+pub fn readings_exclude_each_other<V>()
+    ensures { (R : WeightSet V) → SemiringLaws R → (same : V → V → Bool) → IsEqualityTest same
+        → (spelled : List ℕ → Option V) (fit : List ℕ → Bool) (sets : List TapeSet) (h : HeadLine) (x y : Result (Labelled V) (DautFault V))
+        → IsReadBehind R same spelled fit sets h x → IsReadBehind R same spelled fit sets h y → IsSameReading x y }
+{
+    lines_have_their_tokens();
 }

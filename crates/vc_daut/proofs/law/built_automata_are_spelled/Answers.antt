@@ -1,4 +1,3 @@
-use Rattle.vc_daut.proofs.Written.{names_once}
 use Rattle.vc_daut.proofs.Added.{built_spelled}
 use Rattle.vc_daut.proofs.law.built_automata_are_spelled.Goals as goal
 
