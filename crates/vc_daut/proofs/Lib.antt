@@ -29,3 +29,4 @@ mod Escaped
 mod Unique
 mod Written
 mod Exclusive
+mod One
