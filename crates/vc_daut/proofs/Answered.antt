@@ -45,7 +45,7 @@ module _ {V : Type 0} (R : WeightSet V) (same : V → V → Bool) (spelled : Lis
   build_fault names (Syntax line) m n (new, b) = absurd b
   build_fault names (NotALabel line from to) m n (new, b) = absurd b
   build_fault names (Overflow line (Numeral at)) m n (new, b) = (m, b)
-  build_fault names (Overflow line (Add v w)) m n (new, b) = (m, names, n, b)
+  build_fault names (Overflow line (Add v w)) m n (new, b) = (m, (names, n, b))
   build_fault names (Overflow line (Mul v w)) m n (new, b) = b
   build_fault names (Overflow line (Star v)) m n (new, b) = b
   build_fault names (Limit l) m n (new, b) = (m, inr (names, n, b))

@@ -35,3 +35,8 @@ pub mod Shown
 pub mod Recut
 pub mod Requoted
 pub mod Reheaded
+mod Escaped
+mod Unique
+mod Written
+mod Exclusive
+mod One

@@ -16,3 +16,4 @@ pub mod Keys
 pub mod Building
 pub mod Canonical
 pub mod Growing
+pub mod Readings

@@ -1,14 +1,19 @@
-ghost use Rattle.std.specs.Prelude.{◌≡◌, ℕ, Bool, List, Option, Some};
+ghost use Rattle.std.specs.Prelude.{◌≡◌, ℕ, Bool, List, Option, Some, Result};
 ghost use Rattle.vc_aut.specs.Labelled.{Labelled};
-ghost use Rattle.vc_daut.specs.Answers.{IsBuilt};
+ghost use Rattle.vc_context.specs.declared.context.Weights.{Weights};
+ghost use Rattle.vc_daut.specs.Answers.{IsBuilt, IsReadBehind};
+ghost use Rattle.vc_daut.specs.declared.fault.DautFault.{DautFault};
 ghost use Rattle.vc_daut.specs.Heads.{HeadLine};
 ghost use Rattle.vc_daut.specs.Marks.{HasMarks, Mark, marks_of};
-ghost use Rattle.vc_daut.specs.Spelling.{Spells};
+ghost use Rattle.vc_daut.specs.Readings.{IsSameReading};
+ghost use Rattle.vc_daut.specs.Spelling.{Spells, SpellsAutomaton};
 ghost use Rattle.vc_label.specs.declared.tape_set.TapeSet.{TapeSet};
+ghost use Rattle.vc_model.specs.Automata.{Automaton};
 ghost use Rattle.vc_model.specs.Lists.{IsEqualityTest};
 ghost use Rattle.vc_model.specs.WeightSet.{WeightSet, SemiringLaws};
 
 use vc_aut::drafts_are_sums;
+use vc_context::contexts_have_texts;
 use vc_lex::tokens_follow_the_grammar;
 
 /// The automaton that the reader builds is the one that the lines behind the head spell.
@@ -27,4 +32,27 @@ pub fn lines_have_their_tokens()
     ensures complete { (line : List ℕ) (ms : List Mark) → HasMarks line 0 ms → marks_of line ≡ Some ms }
 {
     tokens_follow_the_grammar();
+}
+
+/// A text spells at most one automaton, over one list of label sets and with the name of one weight set. So do the lines
+/// behind a context line.
+pub fn texts_spell_one_automaton<V>()
+    ensures behind { (R : WeightSet V) → SemiringLaws R → (spelled : List ℕ → Option V) (sets : List TapeSet) (texts : List (List ℕ))
+        (a b : Automaton V) → Spells R spelled sets texts a → Spells R spelled sets texts b → a ≡ b }
+    ensures whole { (R : WeightSet V) → SemiringLaws R → (spelled : List ℕ → Option V) (text : List ℕ) (sets others : List TapeSet)
+        (weights other : Weights) (a b : Automaton V) → SpellsAutomaton R spelled text sets weights a → SpellsAutomaton R spelled text others other b
+        → (sets ≡ others) × (weights ≡ other) × (a ≡ b) }
+{
+    lines_have_their_tokens();
+    contexts_have_texts();
+}
+
+/// What the reader may answer on one text: want of memory apart, one automaton, one line that is outside the grammar, one
+/// label that is not in the sets; or else a number or a sum that does not fit, or a limit that is passed.
+pub fn readings_exclude_each_other<V>()
+    ensures { (R : WeightSet V) → SemiringLaws R → (same : V → V → Bool) → IsEqualityTest same
+        → (spelled : List ℕ → Option V) (fit : List ℕ → Bool) (sets : List TapeSet) (h : HeadLine) (x y : Result (Labelled V) (DautFault V))
+        → IsReadBehind R same spelled fit sets h x → IsReadBehind R same spelled fit sets h y → IsSameReading x y }
+{
+    lines_have_their_tokens();
 }

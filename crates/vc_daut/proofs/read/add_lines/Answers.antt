@@ -18,8 +18,8 @@ add_text-requires-clause-named g c a h =
     let w : more_lines c.loop-rest.rest.now ≡ c.cut_line.result.0.now ∷ more_lines c.cut_line.result.1.now = some_lines c.loop-rest.rest.now p ∙ c.cut_line.ensures.lines in
     c.loop-rest.invariant.4 a (subst (λ ts. In a (flat_map line_names (lines_in spelled ts))) (sym w) (in_front a (line_names (line_in spelled c.cut_line.result.0.now)) (flat_map line_names (lines_in spelled (more_lines c.cut_line.result.1.now))) h))
 
-pub returns-in-Err : goal.returns-in-Err
-returns-in-Err g c =
+pub returns-in-Err-clause-answer : goal.returns-in-Err-clause-answer
+returns-in-Err-clause-answer g c =
     let R = g.S.Semiring.set in
     let spelled = g.S.Semiring.spelled in
     let fit = g.S.Semiring.numbers_fit in
@@ -52,8 +52,8 @@ loop-rest-preserved g c =
       (λ a h. c.loop-rest.invariant.4 a (subst (λ ts. In a (flat_map line_names (lines_in spelled ts))) (sym w) (in_back a (line_names (line_in spelled c.cut_line.result.0.now)) (flat_map line_names (lines_in spelled (more_lines c.cut_line.result.1.now))) h))),
     )
 
-pub returns : goal.returns
-returns g c =
+pub returns-clause-answer : goal.returns-clause-answer
+returns-clause-answer g c =
     let R = g.S.Semiring.set in
     let spelled = g.S.Semiring.spelled in
     let fit = g.S.Semiring.numbers_fit in

@@ -15,3 +15,8 @@ add_lines-requires-clause-states g c =
     let l = c.len.ensures.len in
     let m = length-map c.args.names.now.keys (λ b. b.now) in
     omega (arith, e, s, z, l, m)
+
+pub returns-in-Ok-clause-sets : goal.returns-in-Ok-clause-sets
+returns-in-Ok-clause-sets g c =
+    ap (λ a. a.sets) c.in-Ok.ensures ∙ c.in_default-add_lines.ensures.kept.sets
+    ∙ ap (λ d. d.sets) c.in_default.ensures.ok ∙ states_sets g.S.Semiring.set c.len.result c.new-builder.result ∙ ap (λ d. d.sets) c.new-builder.ensures

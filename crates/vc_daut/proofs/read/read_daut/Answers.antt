@@ -39,4 +39,4 @@ returns-clause-behind g c h k =
     (build_answer g.S.Semiring.set g.S.Value.PartialEq.eq g.S.Semiring.spelled g.S.Semiring.numbers_fit (g.L.LabelSet.sets c.args.labels) head (names_seen c.in-Ok.names) c.build.result
     c.in_default.ensures.0 c.in_default.ensures.1 few
     (names_found raw (names_seen c.check_lines.new.names) (names_seen c.in-Ok.names) (c.in_default.ensures.2 ∙ ap (λ o. with_names o raw) z) c.in-Ok.ensures.order)
-    c.build.ensures)
+    c.build.ensures.answer)
