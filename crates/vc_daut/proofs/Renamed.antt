@@ -25,6 +25,18 @@ all_entries : {V : Type 0} (R : WeightSet V) (sets : List TapeSet) (ts : List (T
 all_entries R sets [] h = tt
 all_entries R sets (t ∷ ts) h = (h t (inl refl), all_entries R sets ts (λ u i. h u (inr i)))
 
+-- the decimal of a number below n
+abbrev IsStateName : ℕ → List ℕ → Type 0
+IsStateName n name = (p : ℕ) × (p < n) × (name ≡ decimal p)
+
+one_name : (n p : ℕ) (name : List ℕ) → p < n → In name (decimal p ∷ []) → IsStateName n name
+one_name n p name h (inl e) = (p, h, e)
+one_name n p name h (inr i) = absurd i
+
+two_names : (n p q : ℕ) (name : List ℕ) → p < n → q < n → In name (decimal p ∷ decimal q ∷ []) → IsStateName n name
+two_names n p q name h k (inl e) = (p, h, e)
+two_names n p q name h k (inr i) = one_name n q name k i
+
 module _ {V : Type 0} (R : WeightSet V) (same : V → V → Bool) (a : Labelled V) (valid : IsLabelled R a) where
   abbrev states : ℕ
   states = a.automaton.states
@@ -50,28 +62,11 @@ module _ {V : Type 0} (R : WeightSet V) (same : V → V → Bool) (a : Labelled 
   pub lines_are_valid : AreTextLines R a.sets (automaton_lines R same a.automaton)
   lines_are_valid = all_lines R a.sets (automaton_lines R same a.automaton) (λ l i. valid_line l (line_of_text R same a.automaton l i))
 
-  names_of_line : (l : TextLine V) → IsLineOf R same a.automaton l → (name : List ℕ) → In name (text_names l) → (p : ℕ) × (p < states) × (name ≡ decimal p)
-  names_of_line l (p, h, inl e) name i = one (subst (λ z. In name (text_names z)) e i)
-    where
-      one : In name (decimal p ∷ []) → (q : ℕ) × (q < states) × (name ≡ decimal q)
-      one (inl f) = (p, h, f)
-      one (inr j) = absurd j
-  names_of_line l (p, h, inr (inl m)) name i = two (subst (λ z. In name (text_names z)) m.is i)
-    where
-      two : In name (decimal p ∷ decimal m.target ∷ []) → (q : ℕ) × (q < states) × (name ≡ decimal q)
-      two (inl f) = (p, h, f)
-      two (inr (inl f)) = (m.target, m.few, f)
-      two (inr (inr j)) = absurd j
-  names_of_line l (p, h, inr (inr (inl e))) name i = one (subst (λ z. In name (text_names z)) e i)
-    where
-      one : In name (decimal p ∷ []) → (q : ℕ) × (q < states) × (name ≡ decimal q)
-      one (inl f) = (p, h, f)
-      one (inr j) = absurd j
-  names_of_line l (p, h, inr (inr (inr e))) name i = one (subst (λ z. In name (text_names z)) e i)
-    where
-      one : In name (decimal p ∷ []) → (q : ℕ) × (q < states) × (name ≡ decimal q)
-      one (inl f) = (p, h, f)
-      one (inr j) = absurd j
+  names_of_line : (l : TextLine V) → IsLineOf R same a.automaton l → (name : List ℕ) → In name (text_names l) → IsStateName states name
+  names_of_line l (p, h, inl e) name i = one_name states p name h (subst (λ z. In name (text_names z)) e i)
+  names_of_line l (p, h, inr (inl m)) name i = two_names states p m.target name h m.few (subst (λ z. In name (text_names z)) m.is i)
+  names_of_line l (p, h, inr (inr (inl e))) name i = one_name states p name h (subst (λ z. In name (text_names z)) e i)
+  names_of_line l (p, h, inr (inr (inr e))) name i = one_name states p name h (subst (λ z. In name (text_names z)) e i)
 
   -- a name stands in the lines exactly where it is the decimal of a state
   named_states : (name : List ℕ) → In name (map decimal (below states)) ↔ In name (flat_map text_names (automaton_lines R same a.automaton))
