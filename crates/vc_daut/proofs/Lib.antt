@@ -40,3 +40,9 @@ mod Unique
 mod Written
 mod Exclusive
 mod One
+pub mod Decimals
+pub mod Placed
+pub mod Renamed
+pub mod Resummed
+pub mod Regathered
+pub mod Respelled
