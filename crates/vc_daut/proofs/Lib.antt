@@ -46,3 +46,4 @@ pub mod Renamed
 pub mod Resummed
 pub mod Regathered
 pub mod Respelled
+pub mod Rewritten
