@@ -30,3 +30,5 @@ mod Unique
 mod Written
 mod Exclusive
 mod One
+mod Refused
+mod Limited
