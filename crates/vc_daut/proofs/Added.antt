@@ -68,16 +68,16 @@ module _ {V : Type 0} (R : WeightSet V) (L : SemiringLaws R) where
   insert_all-append ts [] ys = refl
   insert_all-append ts (x ∷ xs) ys = insert_all-append (insert_transition R ts x) xs ys
 
-  flat_map-append : {X Y : Type 0} (f : X → List Y) (xs ys : List X) → flat_map f (xs ++ ys) ≡ flat_map f xs ++ flat_map f ys
+  pub flat_map-append : {X Y : Type 0} (f : X → List Y) (xs ys : List X) → flat_map f (xs ++ ys) ≡ flat_map f xs ++ flat_map f ys
   flat_map-append f [] ys = refl
   flat_map-append f (x ∷ xs) ys = ap (λ zs. f x ++ zs) (flat_map-append f xs ys) ∙ sym (append_assoc (f x) (flat_map f xs) (flat_map f ys))
 
   -- what was given in front adds up to the draft
-  record IsAddedUp (n : ℕ) (front : List (Given V)) (d : Draft V) : Type 0 where
-    states : d.automaton.states ≡ n
-    initial : d.automaton.initial ≡ map (λ p. sum_over R (beginning R p) front) (below n)
-    final : d.automaton.final ≡ map (λ p. sum_over R (ending R p) front) (below n)
-    transitions : d.automaton.transitions ≡ insert_all R [] (flat_map (moving R) front)
+  pub record IsAddedUp (n : ℕ) (front : List (Given V)) (d : Draft V) : Type 0 where
+    pub states : d.automaton.states ≡ n
+    pub initial : d.automaton.initial ≡ map (λ p. sum_over R (beginning R p) front) (below n)
+    pub final : d.automaton.final ≡ map (λ p. sum_over R (ending R p) front) (below n)
+    pub transitions : d.automaton.transitions ≡ insert_all R [] (flat_map (moving R) front)
 
   still : (n : ℕ) (F : ℕ → Given V → V) (front : List (Given V)) (g : Given V) (xs : List V) → ((p : ℕ) → F p g ≡ R.zero) → xs ≡ map (λ p. sum_over R (F p) front) (below n)
       → xs ≡ map (λ p. sum_over R (F p) (front ++ g ∷ [])) (below n)
@@ -117,7 +117,7 @@ module _ {V : Type 0} (R : WeightSet V) (L : SemiringLaws R) where
         ∙ ap (insert_all R []) (sym (flat_map-append (moving R) front (moves_by t ∷ [])));
   }
 
-  all_added : (n : ℕ) (front rest : List (Given V)) (d : Draft V) → IsAddedUp n front d → IsAddedUp n (front ++ rest) (with_all R d rest)
+  pub all_added : (n : ℕ) (front rest : List (Given V)) (d : Draft V) → IsAddedUp n front d → IsAddedUp n (front ++ rest) (with_all R d rest)
   all_added n front [] d a = subst (λ xs. IsAddedUp n xs d) (sym (append-nil front)) a
   all_added n front (g ∷ rest) d a =
       subst (λ xs. IsAddedUp n xs (with_all R d (g ∷ rest))) (append_assoc front (g ∷ []) rest)
@@ -154,7 +154,7 @@ module _ {V : Type 0} (R : WeightSet V) (L : SemiringLaws R) where
   alike s zero = refl
   alike s (suc n) = ap (λ ys. R.zero ∷ ys) (alike (suc s) n)
 
-  begun : (most n : ℕ) (sets : List TapeSet) → IsAddedUp n [] (with_states R n (empty_draft most sets))
+  pub begun : (most n : ℕ) (sets : List TapeSet) → IsAddedUp n [] (with_states R n (empty_draft most sets))
   begun most n sets =
       let h = has_states n (empty_draft most sets) in
       let z : 0 + n ≡ n = omega arith in

@@ -47,3 +47,5 @@ pub mod Resummed
 pub mod Regathered
 pub mod Respelled
 pub mod Rewritten
+mod Refused
+mod Limited

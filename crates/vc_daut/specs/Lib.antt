@@ -17,3 +17,4 @@ pub mod Building
 pub mod Canonical
 pub mod Growing
 pub mod Readings
+pub mod Additions

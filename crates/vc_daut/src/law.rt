@@ -1,7 +1,8 @@
 ghost use Rattle.std.specs.Prelude.{◌≡◌, ℕ, Bool, List, Option, Some, Result};
 ghost use Rattle.vc_aut.specs.Labelled.{Labelled};
 ghost use Rattle.vc_context.specs.declared.context.Weights.{Weights};
-ghost use Rattle.vc_daut.specs.Answers.{IsBuilt, IsReadBehind};
+ghost use Rattle.vc_daut.specs.Additions.{HasManyTriples, IsUnfitAddition};
+ghost use Rattle.vc_daut.specs.Answers.{IsBuilt, IsPastLimit, IsReadBehind, IsUnfit};
 ghost use Rattle.vc_daut.specs.declared.fault.DautFault.{DautFault};
 ghost use Rattle.vc_daut.specs.Heads.{HeadLine};
 ghost use Rattle.vc_daut.specs.Marks.{HasMarks, Mark, marks_of};
@@ -11,8 +12,11 @@ ghost use Rattle.vc_label.specs.declared.tape_set.TapeSet.{TapeSet};
 ghost use Rattle.vc_model.specs.Automata.{Automaton};
 ghost use Rattle.vc_model.specs.Lists.{IsEqualityTest};
 ghost use Rattle.vc_model.specs.WeightSet.{WeightSet, SemiringLaws};
+ghost use Rattle.vc_ring.specs.declared.faults.MakeFault.TheVariants.{Overflow as Unfit};
+ghost use Rattle.vc_ring.specs.declared.faults.Measure.TheVariants.{Transitions};
+ghost use Rattle.vc_ring.specs.declared.faults.Overflow.TheVariants.{Add};
 
-use vc_aut::drafts_are_sums;
+use vc_aut::{drafts_are_sums, transitions_are_added};
 use vc_context::contexts_have_texts;
 use vc_lex::tokens_follow_the_grammar;
 
@@ -55,4 +59,19 @@ pub fn readings_exclude_each_other<V>()
         → IsReadBehind R same spelled fit sets h x → IsReadBehind R same spelled fit sets h y → IsSameReading x y }
 {
     lines_have_their_tokens();
+}
+
+/// A sum that is refused is an addition that a line of the file makes: to the sum of what the file gives before it to the
+/// same state as an initial or final weight, or to the same source, label and target. Transitions are refused where they
+/// have too many sources, labels and targets.
+pub fn refusals_are_additions<V>()
+    ensures unfit { (R : WeightSet V) → SemiringLaws R → (same : V → V → Bool) → (spelled : List ℕ → Option V) (fit : List ℕ → Bool)
+        (sets : List TapeSet) (h : HeadLine) (line : ℕ) (v w : V)
+        → IsUnfit R same spelled fit sets h line (Unfit (Add v w)) → IsUnfitAddition R spelled sets h line v w }
+    ensures limit { (R : WeightSet V) → SemiringLaws R → (same : V → V → Bool) → (spelled : List ℕ → Option V) (fit : List ℕ → Bool)
+        (sets : List TapeSet) (h : HeadLine) (most : ℕ)
+        → IsPastLimit R same spelled fit sets h (record { what = Transitions; most = most }) → (most ≡ 4000000) × HasManyTriples R spelled sets h }
+{
+    drafts_are_sums::<V>();
+    transitions_are_added::<V>();
 }
