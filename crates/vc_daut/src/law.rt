@@ -3,22 +3,25 @@ ghost use Rattle.vc_aut.specs.Labelled.{Labelled};
 ghost use Rattle.vc_context.specs.declared.context.Weights.{Weights};
 ghost use Rattle.vc_daut.specs.Additions.{HasManyTriples, IsUnfitAddition};
 ghost use Rattle.vc_daut.specs.Answers.{IsBuilt, IsPastLimit, IsReadBehind, IsUnfit};
+ghost use Rattle.vc_daut.specs.Canonical.{automaton_text};
 ghost use Rattle.vc_daut.specs.declared.fault.DautFault.{DautFault};
 ghost use Rattle.vc_daut.specs.Heads.{HeadLine};
 ghost use Rattle.vc_daut.specs.Marks.{HasMarks, Mark, marks_of};
 ghost use Rattle.vc_daut.specs.Readings.{IsSameReading};
 ghost use Rattle.vc_daut.specs.Spelling.{Spells, SpellsAutomaton};
 ghost use Rattle.vc_label.specs.declared.tape_set.TapeSet.{TapeSet};
-ghost use Rattle.vc_model.specs.Automata.{Automaton};
+ghost use Rattle.vc_model.specs.Automata.{Automaton as Model};
 ghost use Rattle.vc_model.specs.Lists.{IsEqualityTest};
 ghost use Rattle.vc_model.specs.WeightSet.{WeightSet, SemiringLaws};
 ghost use Rattle.vc_ring.specs.declared.faults.MakeFault.TheVariants.{Overflow as Unfit};
 ghost use Rattle.vc_ring.specs.declared.faults.Measure.TheVariants.{Transitions};
 ghost use Rattle.vc_ring.specs.declared.faults.Overflow.TheVariants.{Add};
 
-use vc_aut::{drafts_are_sums, transitions_are_added};
+use vc_aut::{Automaton, automata_are_valid, drafts_are_sums, transitions_are_added};
 use vc_context::contexts_have_texts;
+use vc_label::{LabelSet, alphabets_are_sets, words_are_ordered, words_are_over_sets};
 use vc_lex::tokens_follow_the_grammar;
+use vc_ring::Semiring;
 
 /// The automaton that the reader builds is the one that the lines behind the head spell.
 pub fn built_automata_are_spelled<V>()
@@ -42,9 +45,9 @@ pub fn lines_have_their_tokens()
 /// behind a context line.
 pub fn texts_spell_one_automaton<V>()
     ensures behind { (R : WeightSet V) → SemiringLaws R → (spelled : List ℕ → Option V) (sets : List TapeSet) (texts : List (List ℕ))
-        (a b : Automaton V) → Spells R spelled sets texts a → Spells R spelled sets texts b → a ≡ b }
+        (a b : Model V) → Spells R spelled sets texts a → Spells R spelled sets texts b → a ≡ b }
     ensures whole { (R : WeightSet V) → SemiringLaws R → (spelled : List ℕ → Option V) (text : List ℕ) (sets others : List TapeSet)
-        (weights other : Weights) (a b : Automaton V) → SpellsAutomaton R spelled text sets weights a → SpellsAutomaton R spelled text others other b
+        (weights other : Weights) (a b : Model V) → SpellsAutomaton R spelled text sets weights a → SpellsAutomaton R spelled text others other b
         → (sets ≡ others) × (weights ≡ other) × (a ≡ b) }
 {
     lines_have_their_tokens();
@@ -74,4 +77,18 @@ pub fn refusals_are_additions<V>()
 {
     drafts_are_sums::<V>();
     transitions_are_added::<V>();
+}
+
+/// The canonical text of an automaton spells it. Since a text spells at most one automaton, reading what was printed gives
+/// the automaton back.
+pub fn automata_have_texts<L: LabelSet, S: Semiring>(aut: &Automaton<L, S>)
+    ensures { (weights : Weights) → SpellsAutomaton S.set S.spelled (automaton_text S.set S.Value.eq S.canonical aut.now.sets weights aut.now.automaton) aut.now.sets weights aut.now.automaton }
+{
+    let _tapes = aut.labels().tapes();
+    automata_are_valid(aut);
+    alphabets_are_sets();
+    words_are_over_sets();
+    words_are_ordered();
+    contexts_have_texts();
+    lines_have_their_tokens();
 }
