@@ -57,8 +57,8 @@ pub fn texts_spell_one_automaton<V>()
 /// What the reader may answer on one text: want of memory apart, one automaton, one line that is outside the grammar, one
 /// label that is not in the sets; or else a number or a sum that does not fit, or a limit that is passed.
 pub fn readings_exclude_each_other<V>()
-    ensures { (R : WeightSet V) → SemiringLaws R → (same : V → V → Bool) → IsEqualityTest same
-        → (spelled : List ℕ → Option V) (fit : List ℕ → Bool) (sets : List TapeSet) (h : HeadLine) (x y : Result (Labelled V) (DautFault V))
+    ensures { (R : WeightSet V) (same : V → V → Bool) (spelled : List ℕ → Option V) (fit : List ℕ → Bool)
+        (sets : List TapeSet) (h : HeadLine) (x y : Result (Labelled V) (DautFault V))
         → IsReadBehind R same spelled fit sets h x → IsReadBehind R same spelled fit sets h y → IsSameReading x y }
 {
     lines_have_their_tokens();

@@ -1,35 +1,42 @@
 //! The program: real files and streams, and the words after the program's name.
 #![tactic(auto)]
 
+use std::alloc::AllocError;
 use std::env;
+use std::io::ErrorKind;
 use std::process::ExitCode;
+use vc_command::RequestFault;
 use vc_files::{RealFiles, RealSink};
-use vc_top::{Status, run};
+use vc_top::{refuse, run};
 
-/// The words after the program's name, or the status where they are not to be had.
-fn words<R: std::rt::Env + AllocGlobal>(rt: &R) -> Result<Vec<String>, Status> {
+/// The words after the program's name, or why they are not to be had: they are no text, or there is no memory for them.
+fn words<R: std::rt::Env + AllocGlobal>(rt: &R) -> Result<Vec<String>, RequestFault> {
     let mut words = Vec::new(rt.alloc());
-    let Ok(mut all) = env::args(rt) else {
-        return Err(Status::Usage);
+    let mut all = match env::args(rt) {
+        Ok(all) => all,
+        Err(error) if error.kind() == ErrorKind::OutOfMemory => {
+            return Err(RequestFault::Memory(AllocError));
+        }
+        Err(_) => return Err(RequestFault::Usage),
     };
     all.next();
     for word in all {
-        if words.push(word).is_err() {
-            return Err(Status::Memory);
+        if let Err(fault) = words.push(word) {
+            return Err(RequestFault::Memory(fault.into()));
         }
     }
     Ok(words)
 }
 
 fn main(rt: HostRuntime) -> ExitCode {
+    let mut err = RealSink::new(rt.stderr());
     let status = match words(&rt) {
         Ok(words) => {
             let mut files = RealFiles::new(rt.alloc(), &rt);
             let mut out = RealSink::new(rt.stdout());
-            let mut err = RealSink::new(rt.stderr());
             run(rt.alloc(), &words, &mut files, &mut out, &mut err)
         }
-        Err(status) => status,
+        Err(fault) => refuse(fault, &mut err),
     };
     ExitCode::from(status.code())
 }

@@ -4,4 +4,6 @@ pub mod Evaluated
 pub mod Printed
 pub mod Kept
 pub mod Ended
+pub mod Determined
+pub mod OneAnswer
 pub mod Pieces

@@ -5,7 +5,7 @@ use Rattle.vc_files.specs.Files.{Bytes, Tells, Added}
 use Rattle.vc_ring.specs.declared.faults.Measure.TheVariants.{Bytes as BytesOf}
 use Rattle.vc_top.specs.declared.refusal.Bound.TheVariants.{Of}
 use Rattle.vc_top.specs.Contexts.{AnswersContext}
-use Rattle.vc_top.specs.Reasons.{limit, no_memory, unread, usage}
+use Rattle.vc_top.specs.Reasons.{limit, no_memory, overflow, unread, usage}
 use Rattle.vc_top.specs.Refusals.{Answer, OrMemory, Unless}
 use Rattle.vc_top.specs.Seen.{Seen, Reads}
 use Rattle.vc_top.specs.Tasks.{Task, prints, evaluates, AnswersFile}
@@ -39,3 +39,19 @@ abbrev pub names_of : Option Asked → List Bytes
 names_of (Some (cat file)) = file ∷ []
 names_of (Some (eval_file file word)) = file ∷ []
 names_of other = []
+
+-- answers that what the files tell does not determine: want of memory, and a file that was not read
+abbrev pub IsFree : Answer → Type 0
+IsFree (Err no_memory) = ⊤
+IsFree (Err (unread file)) = ⊤
+IsFree other = ⊥
+
+-- a number does not fit, or a limit is passed
+abbrev pub IsPast : Answer → Type 0
+IsPast (Err overflow) = ⊤
+IsPast (Err (limit bound)) = ⊤
+IsPast other = ⊥
+
+-- the answers are the same; or in both something is past its bounds, where any cause that stands may be answered
+abbrev pub IsSameAnswer : Answer → Answer → Type 0
+IsSameAnswer a b = (a ≡ b) ⊎ (IsPast a × IsPast b)

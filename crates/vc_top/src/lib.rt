@@ -4,12 +4,14 @@
 mod automaton;
 mod context;
 mod evaluation;
+mod law;
 mod message;
 mod refusal;
 mod status;
 mod top;
 mod word;
 
+pub use law::answers_are_determined;
 pub use status::Status;
 pub use top::{refuse, run};
 

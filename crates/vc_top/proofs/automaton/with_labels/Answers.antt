@@ -17,7 +17,7 @@ returns-in-Ok g c f h e w =
     let read : IsReadBehind R same spelled fit f.sets f.head (Ok c.in-Ok.automaton) = subst (λ x. IsReadBehind R same spelled fit x f.head (Ok c.in-Ok.automaton)) sets (c.in-Ok.ensures.behind f.head h.is_head) in
     automaton_answered (record { set = g.S.Semiring.set; same = g.S.Value.PartialEq.eq; spelled = g.S.Semiring.spelled; numbers_fit = g.S.Semiring.numbers_fit; canonical = g.S.Semiring.canonical })
     c.args.file.now f.sets f.head
-    (c.readings_exclude_each_other.ensures R g.met.S.Semiring.laws same g.met.S.Semiring.same spelled fit f.sets f.head) c.in-Ok.automaton read
+    (c.readings_exclude_each_other.ensures R same spelled fit f.sets f.head) c.in-Ok.automaton read
     (c.built_automata_are_spelled.ensures R g.met.S.Semiring.laws same g.met.S.Semiring.same spelled fit f.sets f.head c.in-Ok.automaton read)
     (λ automaton a. AnswersTask (record { set = g.S.Semiring.set; same = g.S.Value.PartialEq.eq; spelled = g.S.Semiring.spelled; numbers_fit = g.S.Semiring.numbers_fit; canonical = g.S.Semiring.canonical }) f.sets f.weights (task_of c.args.task) automaton a) (answer_of c.perform.result)
     (subst (λ x. OrMemory (λ a. AnswersTask (record { set = g.S.Semiring.set; same = g.S.Value.PartialEq.eq; spelled = g.S.Semiring.spelled; numbers_fit = g.S.Semiring.numbers_fit; canonical = g.S.Semiring.canonical }) x f.weights (task_of c.args.task) c.in-Ok.automaton.automaton a) (answer_of c.perform.result)) (c.in-Ok.ensures.sets ∙ sets)
@@ -34,5 +34,5 @@ returns-in-Err g c f h e w =
     subst (λ r. OrMemory (λ b. WithAutomaton (record { set = g.S.Semiring.set; same = g.S.Value.PartialEq.eq; spelled = g.S.Semiring.spelled; numbers_fit = g.S.Semiring.numbers_fit; canonical = g.S.Semiring.canonical }) c.args.file.now f.sets f.head b (λ automaton. AnswersTask (record { set = g.S.Semiring.set; same = g.S.Value.PartialEq.eq; spelled = g.S.Semiring.spelled; numbers_fit = g.S.Semiring.numbers_fit; canonical = g.S.Semiring.canonical }) f.sets f.weights (task_of c.args.task) automaton b)) (Err r)) (sym c.refusal_of.ensures)
     (fault_answered (record { set = g.S.Semiring.set; same = g.S.Value.PartialEq.eq; spelled = g.S.Semiring.spelled; numbers_fit = g.S.Semiring.numbers_fit; canonical = g.S.Semiring.canonical })
     c.args.file.now f.sets f.head
-    (c.readings_exclude_each_other.ensures R g.met.S.Semiring.laws same g.met.S.Semiring.same spelled fit f.sets f.head) c.in-Err.fault read
+    (c.readings_exclude_each_other.ensures R same spelled fit f.sets f.head) c.in-Err.fault read
     (λ automaton a. AnswersTask (record { set = g.S.Semiring.set; same = g.S.Value.PartialEq.eq; spelled = g.S.Semiring.spelled; numbers_fit = g.S.Semiring.numbers_fit; canonical = g.S.Semiring.canonical }) f.sets f.weights (task_of c.args.task) automaton a))

@@ -1,0 +1,32 @@
+ghost use Rattle.std.specs.Prelude.{◌⊎◌, List, Option, Some};
+ghost use Rattle.vc_command.specs.Requests.{Asked};
+ghost use Rattle.vc_files.specs.Files.{Bytes, Held};
+ghost use Rattle.vc_top.specs.Answers.{Allows, IsFree, IsSameAnswer};
+ghost use Rattle.vc_top.specs.Refusals.{Answer};
+ghost use Rattle.vc_top.specs.Seen.{seen};
+
+use vc_basic::NminValue;
+use vc_context::contexts_have_texts;
+use vc_daut::{readings_exclude_each_other, texts_spell_one_automaton};
+use vc_files::names_have_one_file;
+use vc_rat::Fraction;
+
+/// Over files that tell their bytes, a request allows one answer alone, but for faults of reading and want of memory; and
+/// where a number does not fit and a limit is passed, either may be answered. So where the cause of a refusal stands, this
+/// refusal is answered, or one of these.
+pub fn answers_are_determined()
+    ensures { (held : Held) (before after : List Bytes) (request : Option Asked) (a b : Answer)
+        → Allows request (seen (Some held) before after) a → Allows request (seen (Some held) before after) b
+        → (IsFree a ⊎ IsFree b) ⊎ IsSameAnswer a b }
+{
+    names_have_one_file();
+    contexts_have_texts();
+    texts_spell_one_automaton::<bool>();
+    texts_spell_one_automaton::<i128>();
+    texts_spell_one_automaton::<Fraction>();
+    texts_spell_one_automaton::<NminValue>();
+    readings_exclude_each_other::<bool>();
+    readings_exclude_each_other::<i128>();
+    readings_exclude_each_other::<Fraction>();
+    readings_exclude_each_other::<NminValue>();
+}
