@@ -1,15 +1,7 @@
 -- Over files that tell, the answer is determined but for faults of reading and for want of memory.
-use Rattle.std.proofs.Common.{◌≡◌, ◌⊎◌, ◌&&◌, ◌+◌, ℕ, ℤ, List, ◌++◌, ◌<◌, length, Bool, true, false, Option, None, Some, Result, Ok, Err, refl, sym, ap, ap₂, ◌∙◌, inl, inr, subst, ◌∷◌, []}
+use Rattle.std.proofs.Common.{◌≡◌, ◌+◌, ℕ, List, true, Option, None, Some, Result, Err, refl, sym, ap, ◌∙◌, inl, inr, subst, ◌∷◌, []}
 use Rattle.std.specs.List.{list_all}
 use Rattle.vc_aut.specs.Labelled.{Labelled}
-use Rattle.vc_basic.specs.ResidueLaws.{residue_laws}
-use Rattle.vc_basic.specs.TropicalLaws.{tropical_laws}
-use Rattle.vc_basic.specs.TruthLaws.{truth_laws}
-use Rattle.vc_basic.specs.WholeLaws.{whole_laws}
-use Rattle.vc_basic.specs.declared.tropical.NminValue.{NminValue}
-use Rattle.vc_command.specs.Requests.{Asked}
-use Rattle.vc_command.specs.Requests as asked
-use Rattle.vc_context.specs.Canonical.{context_text}
 use Rattle.vc_context.specs.declared.context.Weights.{Weights}
 use Rattle.vc_daut.specs.Answers.{IsReadBehind}
 use Rattle.vc_daut.specs.Heads.{HeadLine}
@@ -17,25 +9,18 @@ use Rattle.vc_daut.specs.Readings.{IsSameReading}
 use Rattle.vc_daut.specs.Spelling.{Spells, bad_line, lines_in, IsFirstLabel}
 use Rattle.vc_daut.specs.declared.fault.DautFault.{DautFault}
 use Rattle.vc_daut.specs.declared.fault.DautFault.TheVariants as fault
-use Rattle.vc_files.specs.Files.{Bytes, Held, Holds}
+use Rattle.vc_files.specs.Files.{Bytes}
 use Rattle.vc_label.specs.declared.alphabet.Alphabet.{Alphabet}
 use Rattle.vc_label.specs.declared.tape_set.TapeSet.{TapeSet}
 use Rattle.vc_lex.specs.Letters.{is_plain}
 use Rattle.vc_model.specs.Automata.{Automaton}
-use Rattle.vc_model.specs.WeightSet.{WeightSet, SemiringLaws}
-use Rattle.vc_rat.specs.RationalLaws.{rational_laws}
-use Rattle.vc_rat.specs.declared.fraction.Fraction.{Fraction}
-use Rattle.vc_ring.specs.declared.faults.Measure.TheVariants.{Bytes as BytesOf}
-use Rattle.vc_top.specs.Answers.{Allows, AllowsFile, IsFree, IsPast, IsSameAnswer, most_bytes}
-use Rattle.vc_top.specs.Contexts.{AnswersContext, IsContext}
+use Rattle.vc_top.specs.Answers.{IsPast, IsSameAnswer}
 use Rattle.vc_top.specs.Evaluations.{AnswersEval, AnswersText, AnswersWord, AreLettersOf, SpellsWord}
-use Rattle.vc_top.specs.Inputs.{HasContext, Headed, IsUnfit, WithAutomaton}
-use Rattle.vc_top.specs.Reasons.{Reason, contexts, in_context, in_line, in_word, limit, no_label, overflow, syntax, unread, usage}
-use Rattle.vc_top.specs.Refusals.{Answer, OrMemory, Unless, UnlessAny, WithOne}
-use Rattle.vc_top.specs.Seen.{seen, Reads}
-use Rattle.vc_top.specs.Sets.{InSet, WeightTexts, truth_weights, residue_weights, whole_weights, fraction_weights, tropical_weights}
-use Rattle.vc_top.specs.Tasks.{AnswersFile, AnswersTask, Task, prints, evaluates}
-use Rattle.vc_top.specs.declared.refusal.Bound.TheVariants.{Of}
+use Rattle.vc_top.specs.Inputs.{IsUnfit, WithAutomaton}
+use Rattle.vc_top.specs.Reasons.{Reason, contexts, in_line, in_word, no_label, overflow, syntax}
+use Rattle.vc_top.specs.Refusals.{Answer, Unless, UnlessAny, WithOne}
+use Rattle.vc_top.specs.Sets.{WeightTexts}
+use Rattle.vc_top.specs.Tasks.{AnswersTask, Task, prints, evaluates}
 
 -- two answers behind one cause
 pub unless_same : (C : Type 0) (r : Reason) (a b : Answer) (P Q : Type 0) → Unless C r a P → Unless C r b Q → (P → Q → IsSameAnswer a b) → IsSameAnswer a b

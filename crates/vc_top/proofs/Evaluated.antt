@@ -1,6 +1,6 @@
 -- Each answer has its place in the order of refusals.
-use Rattle.std.proofs.Common.{◌≡◌, ◌≤◌, ◌⊎◌, ◌+◌, ℕ, List, [], ◌∷◌, ◌++◌, All, length, Bool, true, false, IsTrue, Option, None, Some, Result, Ok, Err, refl, sym, ap, ◌∙◌, inl, inr, subst}
-use Rattle.std.specs.Prelude.{◌↔◌, IfOk, String, string_bytes}
+use Rattle.std.proofs.Common.{◌≡◌, ◌+◌, ℕ, List, [], ◌∷◌, ◌++◌, All, Bool, true, false, IsTrue, Option, None, Some, Result, Ok, Err, refl, sym, ap, ◌∙◌, inl, inr, subst}
+use Rattle.std.specs.Prelude.{◌↔◌, String, string_bytes}
 use Rattle.std.specs.Global.{Global}
 use Rattle.vc_aut.specs.Labelled.{Labelled}
 use Rattle.vc_daut.specs.Answers.{IsReadBehind}
@@ -23,7 +23,7 @@ use Rattle.vc_ring.specs.declared.faults.Overflow.{Overflow}
 use Rattle.vc_ring.specs.declared.faults.Overflow.TheVariants.{Numeral, Add, Mul, Star}
 use Rattle.vc_top.specs.Evaluations.{AnswersEval, AnswersText, AnswersWord, AreLettersOf, HasUnfitStep, SpellsWord}
 use Rattle.vc_top.specs.Inputs.{IsUnfit, WithAutomaton}
-use Rattle.vc_top.specs.Reasons.{Reason, contexts, in_line, in_word, limit, no_label, no_memory, overflow, syntax}
+use Rattle.vc_top.specs.Reasons.{Reason, contexts, in_word, limit, no_label, overflow, syntax}
 use Rattle.vc_top.specs.Refusals.{Answer, OrMemory, UnlessAny}
 use Rattle.vc_top.specs.Sets.{WeightTexts}
 use Rattle.vc_top.specs.Views.{fault_reason}

@@ -50,8 +50,11 @@ module _ (file : Bytes) (task : Task) (bytes : Bytes) where
       → OrMemory (AnswersFile file task bytes) a
   arm a c w k e p =
       let f = found bytes (length (lines_of bytes)) (head_line 1 (lines_of bytes)) refl c k in
-      wider (λ b. InSet w (λ V T. WithAutomaton T file f.0.sets f.0.head b (λ A. AnswersTask T f.0.sets f.0.weights task A b))) (AnswersFile file task bytes) a (p f.0 f.1 f.2 f.3) (λ q. inr (f.0, f.1,
-      subst (λ x. InSet x (λ V T. WithAutomaton T file f.0.sets f.0.head a (λ A. AnswersTask T f.0.sets f.0.weights task A a))) (sym (f.3 ∙ e)) q))
+      wider (λ b. InSet w (λ V T. WithAutomaton T file f.0.sets f.0.head b (λ A. AnswersTask T f.0.sets f.0.weights task A b))) (AnswersFile file task bytes) a (p f.0 f.1 f.2 f.3) (λ q. inr (
+        f.0,
+        f.1,
+        subst (λ x. InSet x (λ V T. WithAutomaton T file f.0.sets f.0.head a (λ A. AnswersTask T f.0.sets f.0.weights task A a))) (sym (f.3 ∙ e)) q,
+      ))
 
   -- an answer for the bytes of a file is one for the file
   pub file_allowed : (seen : Seen) → Tells seen.held file bytes → length bytes ≤ most_bytes → (a : Answer) → OrMemory (AnswersFile file task bytes) a → AllowsFile seen file task a

@@ -1,5 +1,5 @@
 -- For which reasons the text of a file, of a word and of a context is refused.
-use Rattle.std.proofs.Common.{◌≡◌, ◌⊎◌, List, Ok, Err, sym, subst, inl, inr}
+use Rattle.std.proofs.Common.{List, Ok, Err, sym, subst, inl, inr}
 use Rattle.vc_context.specs.declared.context.Weights.{Weights}
 use Rattle.vc_context.specs.declared.context.Weights.TheVariants.{B, F2, Z, Q, Nmin}
 use Rattle.vc_daut.specs.Heads.{HeadLine}

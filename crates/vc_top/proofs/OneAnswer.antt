@@ -1,5 +1,5 @@
 -- A request allows one answer over files that tell.
-use Rattle.std.proofs.Common.{◌≡◌, ◌⊎◌, ◌<◌, ℕ, ℤ, List, [], ◌∷◌, ◌++◌, length, Bool, Option, None, Some, Result, Ok, Err, refl, sym, ap, ap₂, ◌∙◌, inl, inr, subst}
+use Rattle.std.proofs.Common.{◌≡◌, ◌⊎◌, ◌<◌, ℕ, ℤ, List, [], ◌∷◌, ◌++◌, length, Bool, Option, Some, Result, Ok, Err, sym, ap, ap₂, ◌∙◌, inl, inr, subst}
 use Rattle.vc_aut.specs.Labelled.{Labelled}
 use Rattle.vc_basic.specs.ResidueLaws.{residue_laws}
 use Rattle.vc_basic.specs.TropicalLaws.{tropical_laws}

@@ -1,7 +1,7 @@
 -- Which answers a request allows, each with its cause.
-use Rattle.std.specs.Prelude.{◌≡◌, ◌<◌, ◌≤◌, ◌⊎◌, ℕ, List, [], ◌∷◌, length, Option, Some, Result, Ok, Err, ⊤}
+use Rattle.std.specs.Prelude.{◌≡◌, ◌<◌, ◌⊎◌, ℕ, List, [], ◌∷◌, length, Option, Some, Err, ⊤}
 use Rattle.vc_command.specs.Requests.{Asked, context, cat, eval_file}
-use Rattle.vc_files.specs.Files.{Bytes, Tells, Added}
+use Rattle.vc_files.specs.Files.{Bytes, Added}
 use Rattle.vc_ring.specs.declared.faults.Measure.TheVariants.{Bytes as BytesOf}
 use Rattle.vc_top.specs.declared.refusal.Bound.TheVariants.{Of}
 use Rattle.vc_top.specs.Contexts.{AnswersContext}

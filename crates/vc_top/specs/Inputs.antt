@@ -14,7 +14,7 @@ use Rattle.vc_model.specs.Automata.{Automaton}
 use Rattle.vc_ring.specs.declared.faults.Limit.{Limit as PastLimit}
 use Rattle.vc_ring.specs.declared.faults.Overflow.{Overflow as Step}
 use Rattle.vc_top.specs.Reasons.{Reason, in_line, syntax, no_label, overflow, limit}
-use Rattle.vc_top.specs.Refusals.{Answer, Unless, UnlessAny, WithOne}
+use Rattle.vc_top.specs.Refusals.{Answer, UnlessAny, WithOne}
 use Rattle.vc_top.specs.Sets.{WeightTexts}
 use Rattle.vc_top.specs.declared.refusal.Bound.TheVariants.{Of}
 

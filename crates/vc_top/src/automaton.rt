@@ -125,8 +125,12 @@ fn with_weights<'w, S: Semiring>(
 {
     labels_have_tapes();
     match context.labels {
-        AnyLabels::Letters(labels) => with_labels::<_, S>(alloc, file, bytes, context, labels, task),
-        AnyLabels::Nullable(labels) => with_labels::<_, S>(alloc, file, bytes, context, labels, task),
+        AnyLabels::Letters(labels) => with_labels::<_, S>(
+            alloc, file, bytes, context, labels, task,
+        ),
+        AnyLabels::Nullable(labels) => with_labels::<_, S>(
+            alloc, file, bytes, context, labels, task,
+        ),
         AnyLabels::Words(labels) => with_labels::<_, S>(alloc, file, bytes, context, labels, task),
         AnyLabels::Tuple(labels) => with_labels::<_, S>(alloc, file, bytes, context, labels, task),
     }

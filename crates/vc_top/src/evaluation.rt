@@ -82,7 +82,10 @@ fn alphabet_of<L: LabelSet>(labels: &L) -> Option<Alphabet>
         return None;
     }
     match labels.tape(0) {
-        TapeSet { kind: TapeKind::Letters, alphabet } => Some(alphabet),
+        TapeSet {
+            kind: TapeKind::Letters,
+            alphabet,
+        } => Some(alphabet),
         _ => None,
     }
 }

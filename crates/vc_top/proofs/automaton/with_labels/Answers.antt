@@ -1,4 +1,4 @@
-use Rattle.std.proofs.Common.{◌≡◌, ◌∙◌, Err, Ok, subst, sym, ap}
+use Rattle.std.proofs.Common.{◌≡◌, ◌∙◌, Err, Ok, subst, sym}
 use Rattle.vc_daut.specs.Answers.{IsReadBehind}
 use Rattle.vc_top.specs.Inputs.{WithAutomaton}
 use Rattle.vc_top.specs.Refusals.{OrMemory}
