@@ -10,7 +10,7 @@ use Rattle.std.specs.Option.{option_map}
 use Rattle.std.specs.Str.{all_ascii_digits}
 use Rattle.vc_ring.specs.Texts.{TextLaws, IsWeightByte}
 use Rattle.vc_num.specs.Decimals.{is_numeral, number_of_digits}
-use Rattle.vc_num.proofs.Printed.{is_numeral-decimal, number_of_digits-decimal, All-decimal}
+use Rattle.vc_num.specs.Printed.{is_numeral-decimal, number_of_digits-decimal, All-decimal}
 use Rattle.vc_basic.specs.Tropical.{tropical, is_held, is_infinity, spelled_tropical, tropical_fits, tropical_text}
 use Rattle.vc_basic.specs.WholeTexts.{digit_byte}
 use Rattle.vc_basic.specs.declared.tropical.NminValue.{NminValue}

@@ -5,7 +5,7 @@ use Rattle.std.proofs.Common.{arith}
 use Rattle.std.proofs.Math.IntN.{*ℤ_comm, +ℤ_idl, zero-*ℤ}
 use Rattle.std.proofs.lemmas.Int.{ints}
 use Rattle.vc_model.specs.WeightSet.{SemiringLaws, RangeLaws, Absorbs}
-use Rattle.vc_num.proofs.Whole.{*ℤ_assoc, *ℤ-+ℤ}
+use Rattle.vc_num.specs.Integers.{*ℤ_assoc, *ℤ-+ℤ}
 use Rattle.vc_basic.specs.Wholes.{wholes}
 
 plus-zero : (a : ℤ) → a +ℤ pos 0 ≡ a

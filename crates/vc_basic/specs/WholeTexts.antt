@@ -12,7 +12,7 @@ use Rattle.vc_ring.specs.Texts.{TextLaws, IsWeightByte}
 use Rattle.vc_num.specs.Decimals.{is_numeral, number_of_digits}
 use Rattle.vc_num.specs.Range.{in_range}
 use Rattle.vc_num.proofs.Digits.{digit_low}
-use Rattle.vc_num.proofs.Printed.{is_numeral-decimal, number_of_digits-decimal, All-decimal}
+use Rattle.vc_num.specs.Printed.{is_numeral-decimal, number_of_digits-decimal, All-decimal}
 use Rattle.vc_basic.specs.Texts.{spelled_natural}
 use Rattle.vc_basic.specs.Wholes.{wholes, signed, spelled_whole, magnitude_fits, whole_fits}
 

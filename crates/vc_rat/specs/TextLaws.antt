@@ -14,7 +14,7 @@ use Rattle.std.proofs.lemmas.Int.{ints}
 use Rattle.std.proofs.lemmas.List.Elements.{All-cons, All-append}
 use Rattle.vc_num.specs.Decimals.{is_numeral}
 use Rattle.vc_num.specs.Range.{in_range}
-use Rattle.vc_num.proofs.Printed.{is_numeral-decimal, number_of_digits-decimal, All-decimal}
+use Rattle.vc_num.specs.Printed.{is_numeral-decimal, number_of_digits-decimal, All-decimal}
 use Rattle.vc_ring.specs.Texts.{TextLaws, IsWeightByte}
 use Rattle.vc_rat.specs.Rationals.{reduced, holds, denominator, positive, rationals}
 use Rattle.vc_rat.specs.RationalRanges.{reduced-holds, and-both, and-first, and-second}
