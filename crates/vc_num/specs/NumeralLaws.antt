@@ -17,8 +17,9 @@ use Rattle.vc_num.specs.Printed.{is_numeral-decimal, number_of_digits-decimal, A
 pub short : (n : ℕ) → IsTrue (nat_lt n (2 ^ 128)) → n < 10 ^ 64
 short n h = let below : n < 2 ^ 128 = grind (arith, nat_tests) in omega arith
 
-below : (n : ℕ) → IsTrue (nat_lt n (2 ^ 127)) → n < 10 ^ 64
-below n h = let less : n < 2 ^ 127 = grind (arith, nat_tests) in omega arith
+-- and so has a magnitude
+pub short_magnitude : (n : ℕ) → IsTrue (nat_lt n (2 ^ 127)) → n < 10 ^ 64
+short_magnitude n h = let less : n < 2 ^ 127 = grind (arith, nat_tests) in omega arith
 
 -- what is printed of a natural number spells it
 pub spelled_natural-decimal : (n : ℕ) → n < 10 ^ 64 → spelled_natural (decimal n) ≡ Some n
@@ -30,7 +31,7 @@ natural_fits-decimal n h = subst (λ m. IsTrue (nat_lt m (2 ^ 128))) (sym (numbe
 
 -- also where it is a magnitude
 pub magnitude_fits-decimal : (n : ℕ) → IsTrue (in_range (pos n)) → IsTrue (magnitude_fits (decimal n))
-magnitude_fits-decimal n h = subst (λ m. IsTrue (nat_lt m (2 ^ 127))) (sym (number_of_digits-decimal n (below n h))) h
+magnitude_fits-decimal n h = subst (λ m. IsTrue (nat_lt m (2 ^ 127))) (sym (number_of_digits-decimal n (short_magnitude n h))) h
 
 no_minus : (c : ℕ) (rest : Bool) → (is_ascii_digit c && rest) ≡ true → (c == 45) ≡ false
 no_minus c rest h = grind (arith, nat_tests)
@@ -45,12 +46,12 @@ fits-digits (c ∷ text) h = rw (no_minus c (all_ascii_digits text) h) refl
 
 -- what is printed of a whole number spells it
 pub spelled_whole-decimal : (z : ℤ) → IsTrue (in_range z) → spelled_whole (signed_decimal z) ≡ Some z
-spelled_whole-decimal (pos n) h = spelled-digits (decimal n) (is_numeral-decimal n (below n h)) ∙ ap (option_map pos) (spelled_natural-decimal n (below n h))
-spelled_whole-decimal (negsuc n) h = ap (option_map (λ m. neg_ℤ (pos m))) (spelled_natural-decimal (suc n) (below (suc n) h))
+spelled_whole-decimal (pos n) h = spelled-digits (decimal n) (is_numeral-decimal n (short_magnitude n h)) ∙ ap (option_map pos) (spelled_natural-decimal n (short_magnitude n h))
+spelled_whole-decimal (negsuc n) h = ap (option_map (λ m. neg_ℤ (pos m))) (spelled_natural-decimal (suc n) (short_magnitude (suc n) h))
 
 -- and fits where the number does
 pub whole_fits-decimal : (z : ℤ) → IsTrue (in_range z) → IsTrue (whole_fits (signed_decimal z))
-whole_fits-decimal (pos n) h = subst IsTrue (sym (fits-digits (decimal n) (is_numeral-decimal n (below n h)))) (magnitude_fits-decimal n h)
+whole_fits-decimal (pos n) h = subst IsTrue (sym (fits-digits (decimal n) (is_numeral-decimal n (short_magnitude n h)))) (magnitude_fits-decimal n h)
 whole_fits-decimal (negsuc n) h = magnitude_fits-decimal (suc n) h
 
 -- a magnitude that fits is in range

@@ -6,7 +6,8 @@ ghost use Rattle.vc_ring.specs.Texts.{read_as};
 use crate::{DecimalFault, read_decimal};
 use vc_ring::NumberFault;
 
-/// The number of one or more digits, which is at most 2^128 - 1.
+/// The number of one or more digits: `Overflow` exactly where it is past 2^128 - 1, and `Bad` for
+/// every other text.
 pub fn read_natural(text: &[u8]) -> Result<u128, NumberFault>
     ensures { result ≡ read_as (spelled_natural text.now) (natural_fits text.now) }
 {
@@ -17,7 +18,8 @@ pub fn read_natural(text: &[u8]) -> Result<u128, NumberFault>
     }
 }
 
-/// The number of one or more digits, which is at most 2^127 - 1.
+/// The number of one or more digits: `Overflow` exactly where it is past 2^127 - 1, and `Bad` for
+/// every other text.
 pub fn read_magnitude(text: &[u8]) -> Result<u128, NumberFault>
     ensures value { result ≡ read_as (spelled_natural text.now) (magnitude_fits text.now) }
     ensures in_range { IfOk result (λ n. IsTrue (in_range (pos n))) }
@@ -29,7 +31,8 @@ pub fn read_magnitude(text: &[u8]) -> Result<u128, NumberFault>
     }
 }
 
-/// The number of one or more digits behind an optional `-`, which is at most 2^127 - 1 in magnitude.
+/// The number of one or more digits behind an optional `-`: `Overflow` exactly where it is past
+/// 2^127 - 1 in magnitude, and `Bad` for every other text.
 pub fn read_whole(text: &[u8]) -> Result<i128, NumberFault>
     ensures value { result ≡ read_as (spelled_whole text.now) (whole_fits text.now) }
     ensures in_range { IfOk result (λ z. IsTrue (in_range z)) }
