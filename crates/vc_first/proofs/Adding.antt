@@ -3,7 +3,7 @@ use Rattle.std.proofs.Common.{◌≡◌, ◌<◌, ℕ, zero, suc, List, [], ◌�
 use Rattle.std.specs.List.{flat_map}
 use Rattle.std.proofs.lemmas.List.{get_or-map}
 use Rattle.std.proofs.lemmas.Bool.{eq-eqb}
-use Rattle.vc_label.proofs.Order.{total, equal}
+use Rattle.vc_label.specs.OrderLaws.{total, equal}
 use Rattle.vc_model.specs.Lists.{In}
 use Rattle.vc_model.specs.WeightSet.{WeightSet, SemiringLaws, RangeLaws}
 use Rattle.vc_model.specs.Automata.{Transition, triple}

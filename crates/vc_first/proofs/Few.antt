@@ -13,7 +13,7 @@ use Rattle.vc_label.specs.Sets.{IsOverSets}
 use Rattle.vc_label.specs.declared.alphabet.Alphabet.{Alphabet}
 use Rattle.vc_label.specs.declared.tape_set.TapeSet.{TapeSet}
 use Rattle.vc_label.proofs.Alphabets.{letters_only}
-use Rattle.vc_label.proofs.Order.{total, equal}
+use Rattle.vc_label.specs.OrderLaws.{total, equal}
 use Rattle.vc_aut.specs.Drafts.{Draft, IsDraft}
 use Rattle.vc_aut.specs.Validity.{IsMove}
 use Rattle.vc_aut.proofs.Order.{once_in_order}

@@ -2,7 +2,7 @@
 use Rattle.std.proofs.Common.{◌≡◌, ℕ, List, [], length, Bool, true, Option, sym, ◌∙◌, subst, arith}
 use Rattle.std.specs.Prelude.{count_by, ◌↔◌}
 use Rattle.std.specs.List.{flat_map}
-use Rattle.vc_label.proofs.Order.{total, equal}
+use Rattle.vc_label.specs.OrderLaws.{total, equal}
 use Rattle.vc_label.specs.Alphabets.{has_letter}
 use Rattle.vc_label.specs.declared.alphabet.Alphabet.{Alphabet}
 use Rattle.vc_label.specs.declared.tape_set.TapeSet.{TapeSet}
