@@ -1,33 +1,33 @@
 -- Each answer has its place in the order of refusals.
-use Rattle.std.proofs.Common.{◌≡◌, ◌≤◌, ◌⊎◌, ℕ, List, [], ◌∷◌, ◌++◌, length, Bool, true, false, IsTrue, Result, Ok, Err, refl, sym, ap, ◌∙◌, inl, inr, subst}
-use Rattle.std.specs.Prelude.{◌↔◌, IfOk, IfErr, String, string_bytes}
+use Rattle.std.proofs.Common.{◌≡◌, ◌≤◌, ◌⊎◌, ◌+◌, ℕ, List, [], ◌∷◌, ◌++◌, All, length, Bool, true, false, IsTrue, Option, None, Some, Result, Ok, Err, refl, sym, ap, ◌∙◌, inl, inr, subst}
+use Rattle.std.specs.Prelude.{◌↔◌, IfOk, String, string_bytes}
 use Rattle.std.specs.Global.{Global}
 use Rattle.vc_aut.specs.Labelled.{Labelled}
+use Rattle.vc_daut.specs.Answers.{IsReadBehind}
+use Rattle.vc_daut.specs.Heads.{HeadLine}
+use Rattle.vc_daut.specs.Readings.{IsSameReading, IsWantOfMemory, IsPastBounds}
+use Rattle.vc_daut.specs.Spelling.{Spells, bad_line, lines_in, IsFirstLabel}
+use Rattle.vc_daut.specs.declared.fault.DautFault.{DautFault}
+use Rattle.vc_daut.specs.declared.fault.DautFault.TheVariants as fault
 use Rattle.vc_eval.specs.Forward.{forward_steps}
-use Rattle.vc_files.specs.Files.{Bytes, Tells}
-use Rattle.vc_first.specs.Additions.{HasUnfitNumber, HasUnfitSum, IsItemsFault, IsSummed}
-use Rattle.vc_first.specs.Automata.{IsAutomatonOf}
-use Rattle.vc_first.specs.Grammar.{AreLines, HasHead, Head, Line, SpellsWord}
-use Rattle.vc_first.specs.Items.{Item, AreOver, items_of}
-use Rattle.vc_first.specs.Reading.{is_spelled}
-use Rattle.vc_first.specs.declared.faults.ItemsFault.{ItemsFault}
-use Rattle.vc_first.specs.declared.faults.ItemsFault.TheVariants.{Number, Sum, Memory}
-use Rattle.vc_context.specs.declared.context.Weights.{Weights}
-use Rattle.vc_context.specs.declared.context.Weights.TheVariants.{B, F2, Z, Q, Nmin}
+use Rattle.vc_files.specs.Files.{Bytes}
+use Rattle.vc_label.specs.Alphabets.{has_letter}
+use Rattle.vc_label.specs.declared.alphabet.Alphabet.{Alphabet}
+use Rattle.vc_label.specs.declared.tape_set.TapeSet.{TapeSet}
 use Rattle.vc_model.specs.Automata.{Automaton, coefficient}
 use Rattle.vc_model.specs.Lists.{In}
 use Rattle.vc_model.specs.WeightSet.{WeightSet}
 use Rattle.vc_model.specs.Words.{Word}
 use Rattle.vc_ring.specs.Steps.{AllFit, fits}
 use Rattle.vc_ring.specs.declared.faults.Overflow.{Overflow}
-use Rattle.vc_top.specs.declared.status.Status.{Status}
-use Rattle.vc_top.specs.declared.status.Status.TheVariants as status
-use Rattle.vc_top.specs.Answers.{AllowsEvalFile, most_bytes}
-use Rattle.vc_top.specs.Evaluations.{AnswersItems, AnswersLines, AnswersText, AnswersWord, Evaluates, HasUnfitStep}
-use Rattle.vc_top.specs.Refusals.{Answer, OrMemory, Unless, WithOne}
-use Rattle.vc_top.specs.Seen.{Seen}
-use Rattle.vc_top.specs.Sets.{InSet, WeightTexts, truth_weights, residue_weights, whole_weights, fraction_weights, tropical_weights}
-use Rattle.vc_top.specs.Views.{answer_of}
+use Rattle.vc_ring.specs.declared.faults.Overflow.TheVariants.{Numeral, Add, Mul, Star}
+use Rattle.vc_top.specs.Evaluations.{AnswersEval, AnswersText, AnswersWord, AreLettersOf, HasUnfitStep, SpellsWord}
+use Rattle.vc_top.specs.Inputs.{IsUnfit, WithAutomaton}
+use Rattle.vc_top.specs.Reasons.{Reason, contexts, in_line, in_word, limit, no_label, no_memory, overflow, syntax}
+use Rattle.vc_top.specs.Refusals.{Answer, OrMemory, UnlessAny}
+use Rattle.vc_top.specs.Sets.{WeightTexts}
+use Rattle.vc_top.specs.Views.{fault_reason}
+use Rattle.vc_top.specs.declared.refusal.Bound.TheVariants.{Of}
 
 no_unfit : {V : Type 0} (R : WeightSet V) (steps : List (Overflow V)) → AllFit R steps → ¬ HasUnfitStep R steps
 no_unfit R [] a u = absurd u.1
@@ -47,116 +47,109 @@ value_at {V} R v A C u w e f p =
     subst (λ x. (v ≡ coefficient R C.automaton x) × AllFit R (forward_steps R C.automaton x)) f
     (subst (λ (X : Labelled V). (v ≡ coefficient R X.automaton u) × AllFit R (forward_steps R X.automaton u)) e p)
 
--- a fault that is no want of memory
-abbrev pub IsUnlessMemory : {V : Type 0} → ItemsFault V → Type 0
-IsUnlessMemory Number = Unit {0}
-IsUnlessMemory (Sum x y) = Unit {0}
-IsUnlessMemory (Memory m) = ⊥
-
 -- what allows more
 pub wider : (P R : Answer → Type 0) (a : Answer) → OrMemory P a → (P a → R a) → OrMemory R a
 wider P R a (inl m) f = inl m
 wider P R a (inr p) f = inr (f p)
 
 module _ {V : Type 0} (T : WeightTexts V) where
-  -- the text of a coefficient, or want of memory
-  pub word_answered : (A : Automaton V) (w : List ℕ) (v : V) (r : Result (String Global) Status) → v ≡ coefficient T.set A (w ∷ []) → AllFit T.set (forward_steps T.set A (w ∷ []))
-      → IfOk r (λ text. string_bytes text ≡ T.canonical v ++ 10 ∷ []) → IfErr r (λ s. s ≡ status.Memory) → OrMemory (AnswersWord T A w) (answer_of r)
-  word_answered A w v (Ok text) e f k m = inr (inr (no_unfit T.set (forward_steps T.set A (w ∷ [])) f, ap Ok (k ∙ ap (λ x. T.canonical x ++ 10 ∷ []) e)))
-  word_answered A w v (Err s) e f k m = inl (ap Err m)
+  -- the text of a coefficient
+  pub word_answered : (A : Automaton V) (w : List ℕ) (v : V) (text : String Global) → v ≡ coefficient T.set A (w ∷ []) → AllFit T.set (forward_steps T.set A (w ∷ []))
+      → string_bytes text ≡ T.canonical v ++ 10 ∷ [] → OrMemory (AnswersWord T A w) (Ok (string_bytes text))
+  word_answered A w v text e f k = inr (inr (no_unfit T.set (forward_steps T.set A (w ∷ [])) f, ap Ok (k ∙ ap (λ x. T.canonical x ++ 10 ∷ []) e)))
 
-  module _ (alphabet : List ℕ) where
-    not_false : IsTrue false → ⊥
-    not_false h = cc h
-
-    pub foreign_word : (A : Automaton V) (text w : List ℕ) (r : Bool) → SpellsWord text w → IsTrue r ↔ ((x : ℕ) → In x w → In x alphabet) → r ≡ false → OrMemory (AnswersText T alphabet A text) (Err status.NotALabel)
-    foreign_word A text w r s h e = inr (inr (w, s, inl (λ o. not_false (subst IsTrue e (h.1 o)), refl)))
-
-    pub word_over : (A : Automaton V) (text w : List ℕ) (r : Bool) (a : Answer) → SpellsWord text w → IsTrue r ↔ ((x : ℕ) → In x w → In x alphabet) → r ≡ true → OrMemory (AnswersWord T A w) a → OrMemory (AnswersText T alphabet A text) a
-    word_over A text w r a s h e p = wider (AnswersWord T A w) (AnswersText T alphabet A text) a p (λ q. inr (w, s, inr (λ n. n (h.0 e), q)))
-
-    -- the items make no automaton
-    pub items_refused : (items : List Item) (text : List ℕ) (f : ItemsFault V) (a : Answer) → IsItemsFault T.set T.spelled T.numbers_fit items f → IsUnlessMemory f → a ≡ Err status.Overflow → AnswersItems T alphabet items text a
-    items_refused items text Number a p n e = inl (inl p, e)
-    items_refused items text (Sum x y) a p n e = inl (inr (record { place = p.0; left = x; right = y; addition = p.1; unfit = p.2 }), e)
-    items_refused items text (Memory m) a p n e = absurd n
-
-    pub items_answered : (items : List Item) (text : List ℕ) (A : Automaton V) (a : Answer) → IsSummed T.set T.spelled T.numbers_fit items → IsAutomatonOf T.set T.spelled items A → OrMemory (AnswersText T alphabet A text) a → OrMemory (AnswersItems T alphabet items text) a
-    items_answered items text A a s i p = wider (AnswersText T alphabet A text) (AnswersItems T alphabet items text) a p (λ q. inr (none s, (A, i, q)))
-      where
-        none : IsSummed T.set T.spelled T.numbers_fit items → HasUnfitNumber T.numbers_fit items ⊎ HasUnfitSum T.set T.spelled items → ⊥
-        none s (inl u) = s.numbers u
-        none s (inr u) = s.sums u
-
-  -- the lines have a letter outside the alphabet
-  pub foreign_lines : (head : Head) (lines : List Line) (text : List ℕ) (r : Bool) → AreLines (is_spelled T.spelled) head.texts lines → IsTrue r ↔ AreOver head.alphabet (items_of lines) → r ≡ false → OrMemory (AnswersLines T head text) (Err status.NotALabel)
-  foreign_lines head lines text r l h e = inr (inr (lines, l, inl (λ o. not_false (subst IsTrue e (h.1 o)), refl)))
+  pub foreign_word : (alphabet : Alphabet) (A : Automaton V) (text w : List ℕ) (r : Bool) → SpellsWord text w → IsTrue r ↔ All (λ x. has_letter alphabet x ≡ true) w → r ≡ false → OrMemory (AnswersText T alphabet A text) (Err (no_label in_word))
+  foreign_word alphabet A text w r s h e = inr (inr (w, s, inl (λ o. not_false (subst IsTrue e (h.1 o)), refl)))
     where
       not_false : IsTrue false → ⊥
       not_false h = cc h
 
-  pub lines_answered : (head : Head) (lines : List Line) (text : List ℕ) (a : Answer) → AreLines (is_spelled T.spelled) head.texts lines → AreOver head.alphabet (items_of lines) → OrMemory (AnswersItems T head.alphabet (items_of lines) text) a → OrMemory (AnswersLines T head text) a
-  lines_answered head lines text a l o p = wider (AnswersItems T head.alphabet (items_of lines) text) (AnswersLines T head text) a p (λ q. inr (lines, l, inr (λ n. n o, q)))
+  pub word_over : (alphabet : Alphabet) (A : Automaton V) (text w : List ℕ) (r : Bool) (a : Answer) → SpellsWord text w → IsTrue r ↔ All (λ x. has_letter alphabet x ≡ true) w → r ≡ true → OrMemory (AnswersWord T A w) a → OrMemory (AnswersText T alphabet A text) a
+  word_over alphabet A text w r a s h e p = wider (AnswersWord T A w) (AnswersText T alphabet A text) a p (λ q. inr (w, s, inr (λ n. n (h.0 e), q)))
 
--- an arm of the choice among weight sets
-pub arm : (file text : Bytes) (h : Head) (w : Weights) (a : Answer) → HasHead file h → h.weights ≡ w → OrMemory (λ a. InSet w (λ V T. AnswersLines T h text a)) a → OrMemory (Evaluates file text) a
-arm file text h w a k e p = wider (λ a. InSet w (λ V T. AnswersLines T h text a)) (Evaluates file text) a p (λ q. inr (h, k, subst (λ x. InSet x (λ V T. AnswersLines T h text a)) (sym e) q))
+  pub no_word : (alphabet : Alphabet) (A : Automaton V) (text : List ℕ) → ((w : List ℕ) → ¬ SpellsWord text w) → OrMemory (AnswersText T alphabet A text) (Err (syntax in_word))
+  no_word alphabet A text n = inr (inl (n, refl))
 
--- the answers of an evaluation
-abbrev IsKept : Answer → Type 0
-IsKept (Ok text) = Unit {0}
-IsKept (Err status.Syntax) = Unit {0}
-IsKept (Err status.NotALabel) = Unit {0}
-IsKept (Err status.Overflow) = Unit {0}
-IsKept (Err other) = ⊥
+  pub letters_answered : (sets : List TapeSet) (alphabet : Alphabet) (A : Automaton V) (text : List ℕ) (a : Answer) → AreLettersOf sets alphabet → OrMemory (AnswersText T alphabet A text) a → OrMemory (AnswersEval T sets text A) a
+  letters_answered sets alphabet A text a l p = wider (AnswersText T alphabet A text) (AnswersEval T sets text A) a p (λ q. inr (alphabet, l, q))
 
-unless_kept : (C : Type 0) (s : Status) (a : Answer) (P : Type 0) → IsKept (Err s) → Unless C s a P → (P → IsKept a) → IsKept a
-unless_kept C s a P k (inl p) f = subst IsKept (sym p.1) k
-unless_kept C s a P k (inr p) f = f p.1
+  pub no_letters : (sets : List TapeSet) (A : Automaton V) (text : List ℕ) → ((alphabet : Alphabet) → ¬ AreLettersOf sets alphabet) → OrMemory (AnswersEval T sets text A) (Err contexts)
+  no_letters sets A text n = inr (inl (n, refl))
 
-one_kept : {X : Type 0} (I : X → Type 0) (s : Status) (a : Answer) (P : X → Type 0) → IsKept (Err s) → WithOne I s a P → ((x : X) → P x → IsKept a) → IsKept a
-one_kept I s a P k (inl p) f = subst IsKept (sym p.1) k
-one_kept I s a P k (inr p) f = f p.0 p.2
+  -- what was read, and its place in the order of refusals
+  module _ (file : Bytes) (sets : List TapeSet) (h : HeadLine) where
+    abbrev pub Read : Result (Labelled V) (DautFault V) → Type 0
+    Read r = IsReadBehind T.set T.same T.spelled T.numbers_fit sets h r
 
-lines_kept : {V : Type 0} (T : WeightTexts V) (h : Head) (text : Bytes) (a : Answer) → AnswersLines T h text a → IsKept a
-lines_kept T h text a p =
-    one_kept _ status.Syntax a _ tt p (λ ls q. unless_kept _ status.NotALabel a _ tt q (λ r. unless_kept _ status.Overflow a _ tt r (λ s.
-    one_kept _ status.Syntax a _ tt s.2 (λ w t. unless_kept _ status.NotALabel a _ tt t (λ u. unless_kept _ status.Overflow a _ tt u (λ e. subst IsKept (sym e) tt))))))
+    module _ (apart : (x y : Result (Labelled V) (DautFault V)) → Read x → Read y → IsSameReading x y) where
+      -- an answer that is no want of memory and nothing past bounds excludes each other one
+      alone : (x y : Result (Labelled V) (DautFault V)) → ¬ IsWantOfMemory x → ¬ IsWantOfMemory y → ¬ (IsPastBounds x × IsPastBounds y) → ¬ (x ≡ y) → Read x → Read y → ⊥
+      alone x y mx my p d rx ry = go (apart x y rx ry)
+        where
+          go : IsSameReading x y → ⊥
+          go (inl (inl m)) = mx m
+          go (inl (inr m)) = my m
+          go (inr (inl e)) = d e
+          go (inr (inr b)) = p b
 
-set_kept : (w : Weights) (h : Head) (text : Bytes) (a : Answer) → InSet w (λ V T. AnswersLines T h text a) → IsKept a
-set_kept B h text a p = lines_kept truth_weights h text a p
-set_kept F2 h text a p = lines_kept residue_weights h text a p
-set_kept Z h text a p = lines_kept whole_weights h text a p
-set_kept Q h text a p = lines_kept fraction_weights h text a p
-set_kept Nmin h text a p = lines_kept tropical_weights h text a p
+      -- an automaton, or something past its bounds
+      abbrev IsSound : Result (Labelled V) (DautFault V) → Type 0
+      IsSound (Ok a) = Unit {0}
+      IsSound (Err (fault.Syntax line)) = ⊥
+      IsSound (Err (fault.NotALabel line from to)) = ⊥
+      IsSound (Err (fault.Overflow line step)) = Unit {0}
+      IsSound (Err (fault.Limit l)) = Unit {0}
+      IsSound (Err (fault.Memory e)) = ⊥
 
-kept : (file text : Bytes) (a : Answer) → Evaluates file text a → IsKept a
-kept file text a p = one_kept (HasHead file) status.Syntax a _ tt p (λ h q. set_kept h.weights h text a q)
+      sound_lines : (x : Result (Labelled V) (DautFault V)) → IsSound x → Read x → bad_line T.spelled (h.number + 1) h.behind ≡ None
+      sound_lines (Ok a) s r = r.are_lines
+      sound_lines (Err (fault.Syntax line)) s r = absurd s
+      sound_lines (Err (fault.NotALabel line from to)) s r = absurd s
+      sound_lines (Err (fault.Overflow line (Numeral at))) s r = r.0.0
+      sound_lines (Err (fault.Overflow line (Add v w))) s r = r.0.0
+      sound_lines (Err (fault.Overflow line (Mul v w))) s r = absurd r
+      sound_lines (Err (fault.Overflow line (Star v))) s r = absurd r
+      sound_lines (Err (fault.Limit l)) s r = r.0.0
+      sound_lines (Err (fault.Memory e)) s r = absurd s
 
--- an answer for the bytes of a file is one for the file
-pub allowed : (seen : Seen) (file word bytes : Bytes) → Tells seen.held file bytes → length bytes ≤ most_bytes → (a : Answer) → OrMemory (Evaluates bytes word) a → AllowsEvalFile seen file word a
-allowed seen file word bytes t h (Ok text) (inl m) = absurd (cc m)
-allowed seen file word bytes t h (Ok text) (inr p) = (bytes, t, (h, p))
-allowed seen file word bytes t h (Err status.Syntax) (inl m) = absurd (cc m)
-allowed seen file word bytes t h (Err status.Syntax) (inr p) = (bytes, t, (h, p))
-allowed seen file word bytes t h (Err status.Overflow) (inl m) = absurd (cc m)
-allowed seen file word bytes t h (Err status.Overflow) (inr p) = (bytes, t, (h, p))
-allowed seen file word bytes t h (Err status.Memory) p = tt
-allowed seen file word bytes t h (Err status.Limit) (inl m) = absurd (cc m)
-allowed seen file word bytes t h (Err status.Limit) (inr p) = absurd (kept bytes word (Err status.Limit) p)
-allowed seen file word bytes t h (Err status.ReadFault) (inl m) = absurd (cc m)
-allowed seen file word bytes t h (Err status.ReadFault) (inr p) = absurd (kept bytes word (Err status.ReadFault) p)
-allowed seen file word bytes t h (Err status.Done) (inl m) = absurd (cc m)
-allowed seen file word bytes t h (Err status.Done) (inr p) = absurd (kept bytes word (Err status.Done) p)
-allowed seen file word bytes t h (Err status.Usage) (inl m) = absurd (cc m)
-allowed seen file word bytes t h (Err status.Usage) (inr p) = absurd (kept bytes word (Err status.Usage) p)
-allowed seen file word bytes t h (Err status.WriteFault) (inl m) = absurd (cc m)
-allowed seen file word bytes t h (Err status.WriteFault) (inr p) = absurd (kept bytes word (Err status.WriteFault) p)
-allowed seen file word bytes t h (Err status.NotALabel) (inl m) = absurd (cc m)
-allowed seen file word bytes t h (Err status.NotALabel) (inr p) = (bytes, t, (h, p))
-allowed seen file word bytes t h (Err status.InvalidStar) (inl m) = absurd (cc m)
-allowed seen file word bytes t h (Err status.InvalidStar) (inr p) = absurd (kept bytes word (Err status.InvalidStar) p)
-allowed seen file word bytes t h (Err status.EmptyCircuit) (inl m) = absurd (cc m)
-allowed seen file word bytes t h (Err status.EmptyCircuit) (inr p) = absurd (kept bytes word (Err status.EmptyCircuit) p)
-allowed seen file word bytes t h (Err status.Mismatch) (inl m) = absurd (cc m)
-allowed seen file word bytes t h (Err status.Mismatch) (inr p) = absurd (kept bytes word (Err status.Mismatch) p)
+      has_memory : (x : Result (Labelled V) (DautFault V)) → IsSound x → ¬ IsWantOfMemory x
+      has_memory (Ok a) s m = m
+      has_memory (Err (fault.Syntax line)) s m = m
+      has_memory (Err (fault.NotALabel line from to)) s m = m
+      has_memory (Err (fault.Overflow line step)) s m = m
+      has_memory (Err (fault.Limit l)) s m = m
+      has_memory (Err (fault.Memory e)) s m = s
+
+      no_bad : (x : Result (Labelled V) (DautFault V)) → IsSound x → Read x → (line : ℕ) → ¬ (bad_line T.spelled (h.number + 1) h.behind ≡ Some line)
+      no_bad x s r line b = none_some (bad_line T.spelled (h.number + 1) h.behind) (sound_lines x s r) b
+        where
+          none_some : (o : Option ℕ) → o ≡ None → o ≡ Some line → ⊥
+          none_some o e f = cc (sym e ∙ f)
+
+      no_first : (x : Result (Labelled V) (DautFault V)) → IsSound x → Read x → (p : ℕ × (ℕ × ℕ)) → ¬ IsFirstLabel sets (h.number + 1) (lines_in T.spelled h.behind) p.0 p.1
+      no_first x s r p f =
+          alone x (Err (fault.NotALabel p.0 p.1.0 p.1.1)) (has_memory x s) (λ m. m) (λ b. b.1) (λ e. subst IsSound e s) r (sound_lines x s r, f)
+
+      -- behind the first two refusals
+      behind : (x : Result (Labelled V) (DautFault V)) → IsSound x → Read x → (a : Answer) (P : Automaton V → Type 0)
+          → UnlessAny (IsUnfit T sets h) (λ reason. reason) a ((A : Automaton V) × Spells T.set T.spelled sets h.behind A × P A) → WithAutomaton T file sets h a P
+      behind x s r a P q = inr (no_bad x s r, inr (no_first x s r, q))
+
+      no_unfit_file : (a : Labelled V) → Read (Ok a) → (reason : Reason) → ¬ IsUnfit T sets h reason
+      no_unfit_file a r reason (inl (e, (line, step, q))) = alone (Ok a) (Err (fault.Overflow line step)) (λ m. m) (λ m. m) (λ p. p.0) (λ d. cc d) r q
+      no_unfit_file a r reason (inr (l, e, q)) = alone (Ok a) (Err (fault.Limit l)) (λ m. m) (λ m. m) (λ p. p.0) (λ d. cc d) r q
+
+      pub automaton_answered : (x : Labelled V) → Read (Ok x) → Spells T.set T.spelled sets h.behind x.automaton → (P : Automaton V → Answer → Type 0) (a : Answer)
+          → OrMemory (P x.automaton) a → OrMemory (λ b. WithAutomaton T file sets h b (λ A. P A b)) a
+      automaton_answered x r l P a p = wider (P x.automaton) (λ b. WithAutomaton T file sets h b (λ A. P A b)) a p (λ q.
+          behind (Ok x) tt r a (λ A. P A a) (inr (no_unfit_file x r, (x.automaton, l, q))))
+
+      pub fault_answered : (f : DautFault V) → Read (Err f) → (P : Automaton V → Answer → Type 0) → OrMemory (λ b. WithAutomaton T file sets h b (λ A. P A b)) (Err (fault_reason file f))
+      fault_answered (fault.Syntax line) r P = inr (inl (line, r, refl))
+      fault_answered (fault.NotALabel line from to) r P = inr (inr (no_line r.0, inl ((line, (from, to)), r.1, refl)))
+        where
+          no_line : bad_line T.spelled (h.number + 1) h.behind ≡ None → (n : ℕ) → ¬ (bad_line T.spelled (h.number + 1) h.behind ≡ Some n)
+          no_line e n b = cc (sym e ∙ b)
+      fault_answered (fault.Overflow line step) r P = inr (behind (Err (fault.Overflow line step)) tt r (Err overflow) (λ A. P A (Err overflow)) (inl (overflow, inl (refl, (line, step, r)), refl)))
+      fault_answered (fault.Limit l) r P = inr (behind (Err (fault.Limit l)) tt r (Err (limit (Of l.what))) (λ A. P A (Err (limit (Of l.what)))) (inl (limit (Of l.what), inr (l, refl, r), refl)))
+      fault_answered (fault.Memory e) r P = inl refl

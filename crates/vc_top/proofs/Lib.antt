@@ -1,4 +1,7 @@
 pub mod Inputs
-pub mod Determined
+pub mod Headed
 pub mod Evaluated
 pub mod Printed
+pub mod Kept
+pub mod Ended
+pub mod Pieces

@@ -1,24 +1,48 @@
--- What the evaluation of a word in the automaton of a file answers, in the order of refusals.
-use Rattle.std.specs.Prelude.{◌≡◌, ◌⊎◌, ℕ, List, [], ◌∷◌, ◌++◌, Ok, false}
+-- What the evaluation of a word in an automaton answers, in the order of refusals.
+use Rattle.std.specs.Prelude.{◌≡◌, ◌≢◌, ◌⊎◌, ℕ, List, [], ◌∷◌, ◌++◌, codes, All, Option, None, Some, Ok, true, false}
+use Rattle.std.specs.Borrow.{Bor}
+use Rattle.std.specs.List.{list_all}
 use Rattle.vc_eval.specs.Forward.{forward_steps}
 use Rattle.vc_files.specs.Files.{Bytes}
-use Rattle.vc_first.specs.Additions.{HasUnfitNumber, HasUnfitSum}
-use Rattle.vc_first.specs.Automata.{IsAutomatonOf}
-use Rattle.vc_first.specs.Grammar.{AreLines, HasHead, Head, SpellsWord}
-use Rattle.vc_first.specs.Items.{Item, AreOver, items_of}
-use Rattle.vc_first.specs.Reading.{is_spelled}
+use Rattle.vc_label.specs.Alphabets.{has_letter}
+use Rattle.vc_label.specs.declared.alphabet.Alphabet.{Alphabet}
+use Rattle.vc_label.specs.declared.tape_set.TapeKind.TheVariants.{Letters}
+use Rattle.vc_label.specs.declared.tape_set.TapeSet.{TapeSet}
+use Rattle.vc_lex.specs.Letters.{is_plain}
 use Rattle.vc_model.specs.Automata.{Automaton, coefficient}
 use Rattle.vc_model.specs.Lists.{In}
 use Rattle.vc_model.specs.WeightSet.{WeightSet}
 use Rattle.vc_ring.specs.Steps.{fits}
 use Rattle.vc_ring.specs.declared.faults.Overflow.{Overflow}
+use Rattle.vc_top.specs.Reasons.{contexts, in_word, no_label, overflow, syntax}
 use Rattle.vc_top.specs.Refusals.{Answer, Unless, WithOne}
-use Rattle.vc_top.specs.Sets.{InSet, WeightTexts}
-use Rattle.vc_top.specs.declared.status.Status.TheVariants as status
+use Rattle.vc_top.specs.Sets.{WeightTexts}
+
+-- a text spells a word: `\e` the empty one, plain letters themselves
+abbrev pub SpellsWord : Bytes → List ℕ → Type 0
+SpellsWord text word = ((text ≡ codes "\\e") × (word ≡ [])) ⊎ ((text ≢ []) × (list_all is_plain text ≡ true) × (word ≡ text))
+
+-- the word of a text; or it spells none
+abbrev pub IsWordOf : Bytes → Option (Bor (List ℕ)) → Type 0
+IsWordOf text None = (word : List ℕ) → ¬ SpellsWord text word
+IsWordOf text (Some word) = SpellsWord text word.now
 
 -- some step of the list does not fit
 abbrev pub HasUnfitStep : {V : Type 0} → WeightSet V → List (Overflow V) → Type 0
 HasUnfitStep {V} R steps = (s : Overflow V) × In s steps × (fits R s ≡ false)
+
+-- a label is one letter of this alphabet
+abbrev pub AreLettersOf : List TapeSet → Alphabet → Type 0
+AreLettersOf sets alphabet = sets ≡ record { kind = Letters; alphabet = alphabet } ∷ []
+
+-- the alphabet of labels that are letters; or there is none
+abbrev pub IsAlphabetOf : List TapeSet → Option Alphabet → Type 0
+IsAlphabetOf sets None = (alphabet : Alphabet) → ¬ AreLettersOf sets alphabet
+IsAlphabetOf sets (Some alphabet) = AreLettersOf sets alphabet
+
+-- each letter of the word is in the alphabet
+abbrev pub IsWordOver : Alphabet → List ℕ → Type 0
+IsWordOver alphabet word = All (λ x. has_letter alphabet x ≡ true) word
 
 module _ {V : Type 0} (T : WeightTexts V) where
   -- the text of the coefficient at the word, and a line feed
@@ -28,28 +52,15 @@ module _ {V : Type 0} (T : WeightTexts V) where
   -- `Overflow` where a step of the forward rows does not fit, and else the coefficient
   abbrev pub AnswersWord : Automaton V → List ℕ → Answer → Type 0
   AnswersWord automaton word answer =
-      Unless (HasUnfitStep T.set (forward_steps T.set automaton (word ∷ []))) status.Overflow answer
+      Unless (HasUnfitStep T.set (forward_steps T.set automaton (word ∷ []))) overflow answer
       (answer ≡ Ok (coefficient_line automaton word))
 
   -- `Syntax` where the text spells no word, `NotALabel` where the word has a letter outside the alphabet
-  abbrev pub AnswersText : List ℕ → Automaton V → Bytes → Answer → Type 0
+  abbrev pub AnswersText : Alphabet → Automaton V → Bytes → Answer → Type 0
   AnswersText alphabet automaton text answer =
-      WithOne (SpellsWord text) status.Syntax answer (λ word.
-      Unless (¬ ((x : ℕ) → In x word → In x alphabet)) status.NotALabel answer (AnswersWord automaton word answer))
+      WithOne (SpellsWord text) (syntax in_word) answer (λ word.
+      Unless (¬ IsWordOver alphabet word) (no_label in_word) answer (AnswersWord automaton word answer))
 
-  -- `Overflow` where a number of the file is past its range or an addition of its weights does not fit
-  abbrev pub AnswersItems : List ℕ → List Item → Bytes → Answer → Type 0
-  AnswersItems alphabet items text answer =
-      Unless (HasUnfitNumber T.numbers_fit items ⊎ HasUnfitSum T.set T.spelled items) status.Overflow answer
-      ((automaton : Automaton V) × IsAutomatonOf T.set T.spelled items automaton × AnswersText alphabet automaton text answer)
-
-  -- `Syntax` where the texts behind the first line are no lines, `NotALabel` where a letter is outside the alphabet
-  abbrev pub AnswersLines : Head → Bytes → Answer → Type 0
-  AnswersLines head text answer =
-      WithOne (AreLines (is_spelled T.spelled) head.texts) status.Syntax answer (λ lines.
-      Unless (¬ AreOver head.alphabet (items_of lines)) status.NotALabel answer (AnswersItems head.alphabet (items_of lines) text answer))
-
--- `Syntax` where the file has no first line that names an alphabet and a weight set
-abbrev pub Evaluates : Bytes → Bytes → Answer → Type 0
-Evaluates file text answer =
-    WithOne (HasHead file) status.Syntax answer (λ head. InSet head.weights (λ V T. AnswersLines T head text answer))
+  -- `Mismatch` where labels are not letters
+  abbrev pub AnswersEval : List TapeSet → Bytes → Automaton V → Answer → Type 0
+  AnswersEval sets text automaton answer = WithOne (AreLettersOf sets) contexts answer (λ alphabet. AnswersText alphabet automaton text answer)

@@ -1,9 +1,14 @@
 pub mod Statuses
+pub mod Reasons
 pub mod Refusals
 pub mod Seen
 pub mod Sets
 pub mod Contexts
+pub mod Inputs
 pub mod Evaluations
+pub mod Tasks
 pub mod Answers
+pub mod Messages
 pub mod Delivery
 pub mod Views
+pub mod Writing

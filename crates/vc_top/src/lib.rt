@@ -1,15 +1,17 @@
 //! The top call: words, files and sinks in, a status out.
 #![tactic(auto)]
 
+mod automaton;
 mod context;
 mod evaluation;
-mod law;
+mod message;
+mod refusal;
 mod status;
 mod top;
+mod word;
 
-pub use law::answers_are_determined;
 pub use status::Status;
-pub use top::run;
+pub use top::{refuse, run};
 
 #[cfg(test)]
 mod tests;
