@@ -3,7 +3,7 @@ ghost use Rattle.vc_label.specs.Letters.{are_letters};
 
 use smallvec::SmallVec;
 use std::alloc::{AllocError, Global};
-use vc_label::{Alphabet, LabelFault, LabelSet, TapeKind, TapeSet, Word, WordBuf};
+use vc_label::{Alphabet, LabelFault, LabelSet, TapeKind, TapeSet, Word, WordBuf, tapes_are_cut};
 
 /// A label of any number of letters. Up to sixteen of them take no memory.
 #[derive(Debug, Drop, PartialEq, Eq, PartialOrd, Ord, Hash)]
@@ -81,6 +81,7 @@ impl LabelSet for Words {
     }
 
     fn cut<'w>(label: &WordLabel, word: Word<'w>) -> Option<Word<'w>> {
+        tapes_are_cut();
         match word.tape(0).strip_prefix(label.letters.as_slice()) {
             Some(rest) => Some(Word::one(rest)),
             None => None,

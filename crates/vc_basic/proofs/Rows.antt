@@ -8,7 +8,7 @@ use Rattle.std.proofs.Math.Seq.{drop-cons}
 use Rattle.std.specs.Int.{int_signum}
 use Rattle.std.specs.Ordering.{int_eq}
 use Rattle.vc_num.specs.Divisors.{gcd_of}
-use Rattle.vc_num.proofs.Divisibility.{gcd_of-assoc}
+use Rattle.vc_num.specs.Divisibility.{gcd_of-assoc}
 use Rattle.vc_basic.specs.Tropical.{lesser}
 use Rattle.vc_basic.specs.TropicalLaws.{lesser-assoc, lesser-infinite}
 use Rattle.vc_basic.specs.TropicalSplits.{least_entry}

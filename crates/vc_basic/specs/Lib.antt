@@ -2,12 +2,10 @@ pub mod Truths
 pub mod TruthLaws
 pub mod Residues
 pub mod ResidueLaws
-pub mod Texts
 pub mod Wholes
 pub mod WholeLaws
 pub mod Tropical
 pub mod TropicalLaws
-pub mod WholeTexts
 pub mod TropicalTexts
 pub mod Splits
 pub mod TropicalSplits

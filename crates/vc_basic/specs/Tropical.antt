@@ -3,7 +3,7 @@ use Rattle.std.specs.Prelude.{ℕ, ◌+◌, ◌^◌, min, Bool, true, false, ◌
 use Rattle.std.specs.Option.{option_map}
 use Rattle.std.specs.Fmt.{decimal}
 use Rattle.vc_model.specs.WeightSet.{WeightSet}
-use Rattle.vc_basic.specs.Texts.{spelled_natural, natural_fits}
+use Rattle.vc_num.specs.Numerals.{spelled_natural, natural_fits}
 use Rattle.vc_basic.specs.declared.tropical.NminValue.{NminValue}
 use Rattle.vc_basic.specs.declared.tropical.NminValue.TheVariants.{Finite, Infinite}
 

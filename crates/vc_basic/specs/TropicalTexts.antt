@@ -1,6 +1,6 @@
 -- The texts of the tropical semiring spell its elements.
-use Rattle.std.specs.Prelude.{◌≡◌, ℕ, ◌<◌, ◌^◌, Bool, true, false, cond, ◌==◌, ◌&&◌, ◌||◌, IsTrue, List, [], ◌∷◌, None, Some, nat_lt, refl}
-use Rattle.std.proofs.Common.{arith}
+use Rattle.std.specs.Prelude.{◌≡◌, ℕ, ◌^◌, Bool, true, false, cond, ◌==◌, ◌&&◌, ◌||◌, IsTrue, List, [], ◌∷◌, None, Some, nat_lt, refl}
+use Rattle.std.proofs.Common.{arith, ap}
 use Rattle.std.proofs.lemmas.Bool.Decides.{nat_tests}
 use Rattle.std.proofs.lemmas.List.Elements.{All-cons, All-nil}
 use Rattle.std.specs.Char.{is_ascii_digit}
@@ -10,9 +10,10 @@ use Rattle.std.specs.Option.{option_map}
 use Rattle.std.specs.Str.{all_ascii_digits}
 use Rattle.vc_ring.specs.Texts.{TextLaws, IsWeightByte}
 use Rattle.vc_num.specs.Decimals.{is_numeral, number_of_digits}
-use Rattle.vc_num.proofs.Printed.{is_numeral-decimal, number_of_digits-decimal, All-decimal}
+use Rattle.vc_num.specs.Numerals.{spelled_natural, natural_fits}
+use Rattle.vc_num.specs.NumeralLaws.{short, spelled_natural-decimal, natural_fits-decimal, natural_bytes}
+use Rattle.vc_num.specs.Printed.{is_numeral-decimal}
 use Rattle.vc_basic.specs.Tropical.{tropical, is_held, is_infinity, spelled_tropical, tropical_fits, tropical_text}
-use Rattle.vc_basic.specs.WholeTexts.{digit_byte}
 use Rattle.vc_basic.specs.declared.tropical.NminValue.{NminValue}
 use Rattle.vc_basic.specs.declared.tropical.NminValue.TheVariants.{Finite, Infinite}
 
@@ -30,33 +31,26 @@ no_infinity (c ∷ []) h = refl
 no_infinity (c ∷ d ∷ []) h = no_infinity_by c d (all_ascii_digits (d ∷ [])) h
 no_infinity (c ∷ d ∷ e ∷ text) h = refl
 
-spelled-digits : (digits : List ℕ) (n : ℕ) → is_numeral digits ≡ true → number_of_digits digits ≡ n → spelled_tropical digits ≡ Some (Finite n)
-spelled-digits digits n p e = rw (no_infinity digits p, p, e) refl
-
-short : (n : ℕ) → IsTrue (nat_lt n (2 ^ 128)) → n < 10 ^ 64
-short n h = let below : n < 2 ^ 128 = grind (arith, nat_tests) in omega arith
+spelled-digits : (digits : List ℕ) (n : ℕ) → is_numeral digits ≡ true → spelled_natural digits ≡ Some n → spelled_tropical digits ≡ Some (Finite n)
+spelled-digits digits n p e = rw (no_infinity digits p) (ap (option_map Finite) e)
 
 tropical_written : (v : NminValue) → IsTrue (is_held v) → spelled_tropical (tropical_text v) ≡ Some v
 tropical_written Infinite h = refl
-tropical_written (Finite n) h =
-    let b = short n h in
-    spelled-digits (decimal n) n (is_numeral-decimal n b) (number_of_digits-decimal n b)
+tropical_written (Finite n) h = spelled-digits (decimal n) n (is_numeral-decimal n (short n h)) (spelled_natural-decimal n (short n h))
 
-fits-digits : (digits : List ℕ) (n : ℕ) → is_numeral digits ≡ true → number_of_digits digits ≡ n → IsTrue (nat_lt n (2 ^ 128)) → IsTrue (tropical_fits digits)
-fits-digits digits n p e h = rw (no_infinity digits p, e) h
+fits-digits : (digits : List ℕ) → is_numeral digits ≡ true → IsTrue (natural_fits digits) → IsTrue (tropical_fits digits)
+fits-digits digits p h = rw (no_infinity digits p) h
 
 tropical_written_fits : (v : NminValue) → IsTrue (is_held v) → IsTrue (tropical_fits (tropical_text v))
 tropical_written_fits Infinite h = refl
-tropical_written_fits (Finite n) h =
-    let b = short n h in
-    fits-digits (decimal n) n (is_numeral-decimal n b) (number_of_digits-decimal n b) h
+tropical_written_fits (Finite n) h = fits-digits (decimal n) (is_numeral-decimal n (short n h)) (natural_fits-decimal n h)
 
 o_byte : IsWeightByte 111
 o_byte = record { low = omega arith; high = omega arith; not_less = λ q. absurd (omega (arith, q)); not_greater = λ q. absurd (omega (arith, q)) }
 
 tropical_bytes : (v : NminValue) → All IsWeightByte (tropical_text v)
 tropical_bytes Infinite = All-cons IsWeightByte 111 (111 ∷ []) o_byte (All-cons IsWeightByte 111 [] o_byte (All-nil IsWeightByte))
-tropical_bytes (Finite n) = All-decimal IsWeightByte digit_byte n
+tropical_bytes (Finite n) = natural_bytes n
 
 pub tropical_texts : TextLaws tropical spelled_tropical tropical_fits tropical_text
 tropical_texts = record {

@@ -1,11 +1,15 @@
--- The laws of the whole numbers as weights.
+-- The laws of the whole numbers as weights and of their texts.
 use Rattle.std.specs.Prelude.{◌≡◌, false, IsTrue, refl, ℤ, pos, ◌+ℤ◌, ◌*ℤ◌}
+use Rattle.std.specs.Fmt.{signed_decimal}
 use Rattle.std.specs.Ordering.{int_eq}
 use Rattle.std.proofs.Common.{arith}
 use Rattle.std.proofs.Math.IntN.{*ℤ_comm, +ℤ_idl, zero-*ℤ}
 use Rattle.std.proofs.lemmas.Int.{ints}
 use Rattle.vc_model.specs.WeightSet.{SemiringLaws, RangeLaws, Absorbs}
-use Rattle.vc_num.proofs.Whole.{*ℤ_assoc, *ℤ-+ℤ}
+use Rattle.vc_num.specs.Integers.{*ℤ_assoc, *ℤ-+ℤ}
+use Rattle.vc_num.specs.Numerals.{spelled_whole, whole_fits}
+use Rattle.vc_num.specs.NumeralLaws.{whole-in_range, spelled_whole-decimal, whole_fits-decimal, whole_bytes}
+use Rattle.vc_ring.specs.Texts.{TextLaws}
 use Rattle.vc_basic.specs.Wholes.{wholes}
 
 plus-zero : (a : ℤ) → a +ℤ pos 0 ≡ a
@@ -59,3 +63,12 @@ whole_ranges = record {
 
 pub wholes_absorb : Absorbs wholes → IsTrue false
 wholes_absorb h = absurd (cc (h (pos 1)))
+
+pub whole_texts : TextLaws wholes spelled_whole whole_fits signed_decimal
+whole_texts = record {
+  not_empty = refl;
+  read_in = whole-in_range;
+  written = spelled_whole-decimal;
+  written_fits = whole_fits-decimal;
+  bytes = whole_bytes;
+}

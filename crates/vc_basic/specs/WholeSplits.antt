@@ -13,8 +13,8 @@ use Rattle.vc_ring.specs.Splits.{SplitRanges}
 use Rattle.vc_model.proofs.Rearranged.{semiring}
 use Rattle.vc_num.specs.Divisors.{gcd_of}
 use Rattle.vc_num.specs.Range.{in_range}
-use Rattle.vc_num.proofs.Divisibility.{gcd_of-is, gcd_of-times, gcd_of-zero_left}
-use Rattle.vc_num.proofs.Whole.{*ℤ_assoc, *ℤ_cancel_left, *ℤ_zero_left}
+use Rattle.vc_num.specs.Divisibility.{gcd_of-is, gcd_of-times, gcd_of-zero_left}
+use Rattle.vc_num.specs.Integers.{*ℤ_assoc, *ℤ_cancel_left, *ℤ_zero_left}
 use Rattle.vc_basic.specs.Wholes.{wholes}
 use Rattle.vc_basic.specs.WholeLaws.{whole_laws}
 

@@ -7,7 +7,7 @@ ghost use Rattle.vc_basic.specs.TropicalTexts.{tropical_texts};
 
 use crate::steps::{step, write_number};
 use std::alloc::AllocError;
-use vc_num::{DecimalFault, read_decimal};
+use vc_num::read_natural;
 use vc_ring::{NumberFault, Overflow, Semiring, Split, StarFault};
 
 /// The natural numbers up to 2^128 - 1, and infinity: sums are the lesser of two, and products are
@@ -77,11 +77,7 @@ impl Semiring for Nmin {
     fn read(text: &[u8]) -> Result<NminValue, NumberFault> {
         match text {
             b"oo" => Ok(NminValue::Infinite),
-            _ => match read_decimal(text) {
-                Ok(number) => Ok(NminValue::Finite(number)),
-                Err(DecimalFault::Overflow) => Err(NumberFault::Overflow),
-                Err(DecimalFault::NotDigits { .. }) => Err(NumberFault::Bad),
-            },
+            _ => read_natural(text).map(NminValue::Finite),
         }
     }
 

@@ -1,20 +1,17 @@
 ghost use Rattle.std.specs.Prelude.{◌≡◌, ◌<◌, true, false, IsTrue, [], int_div, map, unsigned_abs};
 ghost use Rattle.std.specs.Fmt.{signed_decimal};
-ghost use Rattle.std.specs.Option.{option_map};
 ghost use Rattle.std.proofs.Common.{arith};
 ghost use Rattle.std.proofs.lemmas.Int.{ints};
 ghost use Rattle.vc_model.specs.WeightSet.{InRange};
+ghost use Rattle.vc_num.specs.Numerals.{spelled_whole, whole_fits};
 ghost use Rattle.vc_num.specs.Range.{in_range};
-ghost use Rattle.vc_ring.specs.Texts.{read_as};
-ghost use Rattle.vc_basic.specs.Texts.{spelled_natural};
-ghost use Rattle.vc_basic.specs.Wholes.{wholes, signed, spelled_whole, magnitude_fits, whole_fits};
-ghost use Rattle.vc_basic.specs.WholeLaws.{whole_laws, whole_ranges, wholes_absorb};
+ghost use Rattle.vc_basic.specs.Wholes.{wholes};
+ghost use Rattle.vc_basic.specs.WholeLaws.{whole_laws, whole_ranges, whole_texts, wholes_absorb};
 ghost use Rattle.vc_basic.specs.WholeSplits.{common_divisor, leading_sign, whole_factor, whole_normal, whole_splits, whole_split_ranges};
-ghost use Rattle.vc_basic.specs.WholeTexts.{whole_texts};
 
 use crate::steps::{star_of_zero, step, write_number};
 use std::alloc::AllocError;
-use vc_num::{DecimalFault, checked_add, checked_mul, gcd, read_decimal};
+use vc_num::{checked_add, checked_mul, gcd, read_whole};
 use vc_ring::{NumberFault, Overflow, Semiring, Split, StarFault};
 
 /// The whole numbers of magnitude at most 2^127 - 1. Sums and products past it do not fit, and zero
@@ -70,28 +67,11 @@ impl Semiring for Z {
     }
 
     fn read(text: &[u8]) -> Result<i128, NumberFault> {
-        match text {
-            [b'-', digits @ ..] => read_signed(true, digits),
-            _ => read_signed(false, text),
-        }
+        read_whole(text)
     }
 
     fn write(value: i128, into: &mut String) -> Result<(), AllocError> {
         write_number!(value, into)
-    }
-}
-
-// The number that digits spell, as a magnitude.
-fn read_signed(negative: bool, digits: &[u8]) -> Result<i128, NumberFault>
-    ensures { result ≡ read_as (option_map (signed negative) (spelled_natural digits.now)) (magnitude_fits digits.now) }
-{
-    match read_decimal(digits) {
-        Ok(number) if number < 1 << 127 => {
-            let magnitude = number as i128;
-            Ok(if negative { -magnitude } else { magnitude })
-        }
-        Ok(_) | Err(DecimalFault::Overflow) => Err(NumberFault::Overflow),
-        Err(DecimalFault::NotDigits { .. }) => Err(NumberFault::Bad),
     }
 }
 

@@ -10,7 +10,7 @@ use Rattle.vc_aut.specs.Refusals.{weight_refusal}
 use Rattle.vc_aut.specs.Sums.{insert_transition, insert_all, standing}
 use Rattle.vc_aut.proofs.Order.{once_in_order}
 use Rattle.vc_label.specs.declared.tape_set.TapeSet.{TapeSet}
-use Rattle.vc_label.proofs.Order.{total, equal}
+use Rattle.vc_label.specs.OrderLaws.{total, equal}
 use Rattle.vc_model.specs.Automata.{Transition, triple}
 use Rattle.vc_model.specs.Lists.{In}
 use Rattle.vc_model.specs.WeightSet.{WeightSet, SemiringLaws}

@@ -1,4 +1,4 @@
 pub mod Letters
-pub mod Order
+pub mod Cuts
 pub mod Alphabets
 pub mod Sets

@@ -4,6 +4,7 @@ pub mod Borrowed
 pub mod Owned
 pub mod Growth
 pub mod Order
+pub mod OrderLaws
 pub mod Alphabets
 pub mod Sets
 pub mod Faults

@@ -1,12 +1,12 @@
-ghost use Rattle.std.specs.Prelude.{◌≡◌, ◌↔◌, List, [], ◌∷◌, length, false};
+ghost use Rattle.std.specs.Prelude.{◌≡◌, ◌↔◌, ℕ, nat_eq, true, false, IsTrue, List, [], ◌∷◌, length, take, drop, None, Some, if◌then◌else◌};
+ghost use Rattle.std.specs.Cmp.Lexicographic.{pointwise};
 ghost use Rattle.std.specs.Cmp.{IsTotalOrder};
 ghost use Rattle.std.specs.declared.cmp.Ordering.TheVariants.{Equal};
 ghost use Rattle.vc_label.specs.Order.{word_order};
-ghost use Rattle.vc_model.specs.Words.{Word, is_empty};
-ghost use Rattle.std.specs.Prelude.{ℕ, true, IsTrue};
+ghost use Rattle.vc_model.specs.Words.{Word, Tape, is_empty, rest_after};
 ghost use Rattle.std.specs.List.Sorted.{IsStrictlyIncreasing};
 ghost use Rattle.vc_label.specs.Alphabets.{has_letter, letters_of};
-ghost use Rattle.vc_label.specs.Letters.{is_letter, is_of_letters};
+ghost use Rattle.vc_label.specs.Letters.{is_letter, are_letters, is_of_letters};
 ghost use Rattle.vc_label.specs.Sets.{IsOverSets, IsSingleWord};
 ghost use Rattle.vc_label.specs.declared.tape_set.TapeSet.{TapeSet};
 ghost use Rattle.vc_label.specs.declared.alphabet.Alphabet.{Alphabet};
@@ -32,8 +32,16 @@ pub fn words_are_over_sets()
 {}
 
 /// The order of labels is total, and answers `Equal` exactly where the parts are the same.
-#[tactic(auto, using(crate::proofs::Order::total, crate::proofs::Order::equal))]
+#[tactic(auto, using(crate::specs::OrderLaws::total, crate::specs::OrderLaws::equal))]
 pub fn words_are_ordered()
     ensures total { IsTotalOrder word_order }
     ensures equal { (v w : Word) → (word_order v w ≡ Equal) ↔ (v ≡ w) }
+{}
+
+/// What follows a tape in another stands behind it, where the other begins with it; and what stands
+/// behind the first letters of a tape is of letters.
+#[tactic(auto, using(crate::proofs::Cuts::rest_by_prefix, crate::proofs::Letters::are_letters_drop))]
+pub fn tapes_are_cut()
+    ensures rest { (a b : Tape) → rest_after a b ≡ (if pointwise nat_eq (take (length a) b) a then Some (drop (length a) b) else None) }
+    ensures letters { (n : ℕ) (a : Tape) → IsTrue (are_letters a) → IsTrue (are_letters (drop n a)) }
 {}

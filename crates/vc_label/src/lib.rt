@@ -13,7 +13,7 @@ mod word_buf;
 
 pub use alphabet::Alphabet;
 pub use label_set::{LabelFault, LabelSet};
-pub use laws::{alphabets_are_sets, words_are_ordered, words_are_over_sets};
+pub use laws::{alphabets_are_sets, tapes_are_cut, words_are_ordered, words_are_over_sets};
 pub use tape_set::{TapeKind, TapeSet};
 pub use word::Word;
 pub use word_buf::WordBuf;

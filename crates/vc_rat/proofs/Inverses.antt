@@ -1,7 +1,7 @@
 -- That bottom over top is in lowest terms where top over bottom is.
 use Rattle.std.proofs.Common.{◌≡◌, ◌≢◌, ℕ, ℤ, pos, unsigned_abs, sym, ap, ◌∙◌, subst}
 use Rattle.vc_num.specs.Divisors.{gcd_of}
-use Rattle.vc_num.proofs.Divisibility.{gcd_of-comm}
+use Rattle.vc_num.specs.Divisibility.{gcd_of-comm}
 use Rattle.vc_rat.specs.Fields.{signed, magnitude-signed, top-positive}
 use Rattle.vc_rat.specs.Lowest.{IsLowest}
 use Rattle.vc_rat.specs.Rationals.{zero}

@@ -6,7 +6,7 @@ use Rattle.std.proofs.Math.IntN.{*ℤ_comm, zero-*ℤ}
 use native.Mathlib.Nat.{one-dvd, div-one, div-le_self}
 use Rattle.vc_num.specs.Divisors.{gcd_of}
 use Rattle.vc_num.specs.Range.{in_range}
-use Rattle.vc_num.proofs.Divisibility.{gcd_of-from}
+use Rattle.vc_num.specs.Divisibility.{gcd_of-from}
 use Rattle.vc_model.specs.WeightSet.{RangeLaws}
 use Rattle.vc_rat.specs.Reduced.{positive-max, magnitude-div}
 use Rattle.vc_rat.specs.Rationals.{reduced, plus, zero, one, star, holds, tops_fit, parts_fit, fits_plus, denominator, positive, rationals}

@@ -6,7 +6,7 @@ use Rattle.std.proofs.Math.IntN.{pos-*ℤ-pos, negsuc-*ℤ-pos, zero-*ℤ}
 use Rattle.std.specs.Int.{◌∣◌}
 use native.Mathlib.Nat.{div-mul_cancel, dvd-mul_right, pos_of_dvd_of_pos}
 use Rattle.vc_num.specs.Divisors.{gcd_of}
-use Rattle.vc_num.proofs.Divisibility.{gcd_of-is, gcd_of-positive, gcd_of-quotients, quotients-across}
+use Rattle.vc_num.specs.Divisibility.{gcd_of-is, gcd_of-positive, gcd_of-quotients, quotients-across}
 use Rattle.vc_rat.specs.Lowest.{IsLowest}
 
 pub positive-mul : (a b : ℕ) → 0 < a → 0 < b → 0 < a * b

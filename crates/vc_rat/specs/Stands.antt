@@ -6,8 +6,8 @@ use Rattle.std.proofs.lemmas.Int.{unsigned_abs-mul}
 use Rattle.std.proofs.lemmas.Nat.Gcd.{dvd_antisymm}
 use native.Mathlib.Nat.{dvd-mul_left}
 use Rattle.std.proofs.Props.{props}
-use Rattle.vc_num.proofs.Divisibility.{gcd_of-comm, gauss}
-use Rattle.vc_num.proofs.Whole.{*ℤ_cancel}
+use Rattle.vc_num.specs.Divisibility.{gcd_of-comm, gauss}
+use Rattle.vc_num.specs.Integers.{*ℤ_cancel}
 use Rattle.vc_model.proofs.Rearranged.{semiring}
 use Rattle.vc_rat.specs.Lowest.{IsLowest}
 use Rattle.vc_rat.specs.Reduced.{reduced-same, positive-mul, magnitude-is}

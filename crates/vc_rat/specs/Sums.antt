@@ -4,7 +4,7 @@ use Rattle.std.proofs.Common.{sym, subst, refl}
 use Rattle.std.specs.Int.{IsGcd, ◌∣◌}
 use native.Mathlib.Nat.{div-mul_cancel}
 use Rattle.vc_num.specs.Divisors.{gcd_of}
-use Rattle.vc_num.proofs.Divisibility.{gcd_of-is}
+use Rattle.vc_num.specs.Divisibility.{gcd_of-is}
 use Rattle.vc_model.specs.WeightSet.{WeightSet, SemiringLaws}
 use Rattle.vc_model.proofs.Rearranged.{semiring}
 use Rattle.vc_rat.specs.Reduced.{positive-mul, positive-div}

@@ -1,9 +1,8 @@
 -- That the canonical text of a rational number is read again.
-use Rattle.std.specs.Prelude.{ℕ, zero, suc, ◌≡◌, ◌+◌, ◌==◌, ◌<◌, ◌^◌, Bool, true, false, not, cond, ◌&&◌, IsTrue, List, [], ◌∷◌, ◌++◌, take, drop, length, All, Option, None, Some, ℤ, pos, negsuc, neg_ℤ, nat_lt, unsigned_abs, ◌<ℤ◌, ◌*ℤ◌}
+use Rattle.std.specs.Prelude.{ℕ, zero, suc, ◌≡◌, ◌+◌, ◌==◌, ◌<◌, ◌^◌, Bool, true, false, not, cond, ◌&&◌, IsTrue, List, [], ◌∷◌, ◌++◌, take, drop, length, All, Option, None, Some, ℤ, pos, negsuc, nat_lt, unsigned_abs, ◌<ℤ◌, ◌*ℤ◌}
 use Rattle.std.specs.Char.{is_ascii_digit}
 use Rattle.std.specs.Fmt.{decimal, signed_decimal}
 use Rattle.std.specs.List.{prefix_len}
-use Rattle.std.specs.Option.{option_map}
 use Rattle.std.specs.Ordering.{int_eq}
 use Rattle.std.specs.Str.{all_ascii_digits}
 use Rattle.std.proofs.Common.{refl, sym, ap, ◌∙◌, arith, subst}
@@ -14,47 +13,16 @@ use Rattle.std.proofs.lemmas.Int.{ints}
 use Rattle.std.proofs.lemmas.List.Elements.{All-cons, All-append}
 use Rattle.vc_num.specs.Decimals.{is_numeral}
 use Rattle.vc_num.specs.Range.{in_range}
-use Rattle.vc_num.proofs.Printed.{is_numeral-decimal, number_of_digits-decimal, All-decimal}
+use Rattle.vc_num.specs.Numerals.{spelled_natural, magnitude_fits, spelled_whole, whole_fits}
+use Rattle.vc_num.specs.NumeralLaws.{short_magnitude, spelled_natural-decimal, magnitude_fits-decimal, spelled_whole-decimal, whole_fits-decimal, magnitude-in_range, whole-in_range, whole_bytes}
+use Rattle.vc_num.specs.Printed.{is_numeral-decimal}
 use Rattle.vc_ring.specs.Texts.{TextLaws, IsWeightByte}
 use Rattle.vc_rat.specs.Rationals.{reduced, holds, denominator, positive, rationals}
 use Rattle.vc_rat.specs.RationalRanges.{reduced-holds, and-both, and-first, and-second}
 use Rattle.vc_rat.specs.Reduced.{positive-suc, magnitude-is}
 use Rattle.vc_rat.specs.Stands.{stands-reduced, stands-same}
-use Rattle.vc_rat.specs.Texts.{numeral_of, numeral_fits, whole_of, whole_fits, quotient_of, spelled_at, fits_at, slash_in, spelled_fraction, fraction_fits, fraction_text}
+use Rattle.vc_rat.specs.Texts.{quotient_of, spelled_at, fits_at, slash_in, spelled_fraction, fraction_fits, fraction_text}
 use Rattle.vc_rat.specs.declared.fraction.Fraction.{Fraction}
-
--- digits
-
-small : (n : ℕ) → n < 2 ^ 127 → n < 10 ^ 64
-small n h = omega arith
-
-numeral-decimal : (n : ℕ) → n < 10 ^ 64 → numeral_of (decimal n) ≡ Some n
-numeral-decimal n h = rw (is_numeral-decimal n h, number_of_digits-decimal n h) refl
-
-no-minus : (c : ℕ) (rest : Bool) → (is_ascii_digit c && rest) ≡ true → (c == 45) ≡ false
-no-minus c rest h = grind (arith, nat_tests)
-
-whole-digits : (ds : List ℕ) → is_numeral ds ≡ true → whole_of ds ≡ option_map pos (numeral_of ds)
-whole-digits [] h = absurd (cc)
-whole-digits (c ∷ cs) h = rw (no-minus c (all_ascii_digits cs) h) refl
-
-fits-digits : (ds : List ℕ) → is_numeral ds ≡ true → whole_fits ds ≡ numeral_fits ds
-fits-digits [] h = absurd (cc)
-fits-digits (c ∷ cs) h = rw (no-minus c (all_ascii_digits cs) h) refl
-
-below : (n : ℕ) → IsTrue (nat_lt n (2 ^ 127)) → n < 10 ^ 64
-below n h = small n (grind arith)
-
-whole-decimal : (z : ℤ) → IsTrue (in_range z) → whole_of (signed_decimal z) ≡ Some z
-whole-decimal (pos n) h = whole-digits (decimal n) (is_numeral-decimal n (below n h)) ∙ ap (option_map pos) (numeral-decimal n (below n h))
-whole-decimal (negsuc n) h = ap (option_map (λ m. neg_ℤ (pos m))) (numeral-decimal (suc n) (below (suc n) h))
-
-numeral-fits : (n : ℕ) → IsTrue (nat_lt n (2 ^ 127)) → IsTrue (numeral_fits (decimal n))
-numeral-fits n h = subst (λ m. IsTrue (nat_lt m (2 ^ 127))) (sym (number_of_digits-decimal n (below n h))) h
-
-whole-fits : (z : ℤ) → IsTrue (in_range z) → IsTrue (whole_fits (signed_decimal z))
-whole-fits (pos n) h = subst IsTrue (sym (fits-digits (decimal n) (is_numeral-decimal n (below n h)))) (numeral-fits n h)
-whole-fits (negsuc n) h = numeral-fits (suc n) h
 
 -- no `/` stands in a number
 
@@ -82,7 +50,7 @@ all-digits [] h = refl
 all-digits (c ∷ cs) h = h
 
 front-decimal : (n : ℕ) (rest : List ℕ) → IsTrue (nat_lt n (2 ^ 127)) → front (decimal n ++ rest) ≡ length (decimal n) + front rest
-front-decimal n rest h = front-digits (decimal n) rest (all-digits (decimal n) (is_numeral-decimal n (below n h)))
+front-decimal n rest h = front-digits (decimal n) rest (all-digits (decimal n) (is_numeral-decimal n (short_magnitude n h)))
 
 front-signed : (z : ℤ) (rest : List ℕ) → IsTrue (in_range z) → front (signed_decimal z ++ rest) ≡ length (signed_decimal z) + front rest
 front-signed (pos n) rest h = front-decimal n rest h
@@ -124,7 +92,7 @@ read-whole : (x : Fraction) → IsTrue (holds x) → IsTrue (int_eq x.bottom (po
 read-whole x h e =
     let text = signed_decimal x.top in
     let top = and-first (in_range x.top) (in_range x.bottom) h in
-    let made : spelled_at None text ≡ Some x = ap (λ t. quotient_of t (Some 1)) (whole-decimal x.top top) ∙ quotient-is x 1 (denominator-one x e) in
+    let made : spelled_at None text ≡ Some x = ap (λ t. quotient_of t (Some 1)) (spelled_whole-decimal x.top top) ∙ quotient-is x 1 (denominator-one x e) in
     subst (λ s. spelled_at s text ≡ Some x) (sym (slash-none x.top (and-first (in_range x.top) (in_range x.bottom) h))) made
 
 abbrev quotient_text : Fraction → List ℕ
@@ -142,13 +110,13 @@ read-quotient x h =
     let bottom : signed_decimal x.bottom ≡ decimal d = signed-positive x.bottom x.lowest.0 in
     let behind : drop (suc (length digits_of_top)) text ≡ decimal d = drop-behind digits_of_top (signed_decimal x.bottom) 47 ∙ bottom in
     let before : take (length digits_of_top) text ≡ digits_of_top = take-append_seam digits_of_top (47 ∷ signed_decimal x.bottom) in
-    let top_read : whole_of (take (length digits_of_top) text) ≡ Some x.top = ap whole_of before ∙ whole-decimal x.top (and-first (in_range x.top) (in_range x.bottom) h) in
-    let bottom_read : numeral_of (drop (suc (length digits_of_top)) text) ≡ Some d = ap numeral_of behind ∙ numeral-decimal d (below d (and-second (in_range x.top) (in_range x.bottom) h)) in
-    let made : spelled_at (Some (length digits_of_top)) text ≡ Some x = ap (λ t. quotient_of t (numeral_of (drop (suc (length digits_of_top)) text))) top_read ∙ ap (quotient_of (Some x.top)) bottom_read ∙ quotient-is x d refl in
+    let top_read : spelled_whole (take (length digits_of_top) text) ≡ Some x.top = ap spelled_whole before ∙ spelled_whole-decimal x.top (and-first (in_range x.top) (in_range x.bottom) h) in
+    let bottom_read : spelled_natural (drop (suc (length digits_of_top)) text) ≡ Some d = ap spelled_natural behind ∙ spelled_natural-decimal d (short_magnitude d (and-second (in_range x.top) (in_range x.bottom) h)) in
+    let made : spelled_at (Some (length digits_of_top)) text ≡ Some x = ap (λ t. quotient_of t (spelled_natural (drop (suc (length digits_of_top)) text))) top_read ∙ ap (quotient_of (Some x.top)) bottom_read ∙ quotient-is x d refl in
     subst (λ s. spelled_at s text ≡ Some x) (sym (slash-behind x.top (signed_decimal x.bottom) (and-first (in_range x.top) (in_range x.bottom) h))) made
 
 fits-whole : (x : Fraction) → IsTrue (holds x) → IsTrue (fraction_fits (signed_decimal x.top))
-fits-whole x h = subst (λ s. IsTrue (fits_at s (signed_decimal x.top))) (sym (slash-none x.top (and-first (in_range x.top) (in_range x.bottom) h))) (whole-fits x.top (and-first (in_range x.top) (in_range x.bottom) h))
+fits-whole x h = subst (λ s. IsTrue (fits_at s (signed_decimal x.top))) (sym (slash-none x.top (and-first (in_range x.top) (in_range x.bottom) h))) (whole_fits-decimal x.top (and-first (in_range x.top) (in_range x.bottom) h))
 
 fits-quotient : (x : Fraction) → IsTrue (holds x) → IsTrue (fraction_fits (quotient_text x))
 fits-quotient x h =
@@ -157,9 +125,9 @@ fits-quotient x h =
     let d = denominator x in
     let behind : drop (suc (length digits_of_top)) text ≡ decimal d = drop-behind digits_of_top (signed_decimal x.bottom) 47 ∙ signed-positive x.bottom x.lowest.0 in
     let before : take (length digits_of_top) text ≡ digits_of_top = take-append_seam digits_of_top (47 ∷ signed_decimal x.bottom) in
-    let top = subst (λ t. IsTrue (whole_fits t)) (sym before) (whole-fits x.top (and-first (in_range x.top) (in_range x.bottom) h)) in
-    let bottom = subst (λ t. IsTrue (numeral_fits t)) (sym behind) (numeral-fits d (and-second (in_range x.top) (in_range x.bottom) h)) in
-    subst (λ s. IsTrue (fits_at s text)) (sym (slash-behind x.top (signed_decimal x.bottom) (and-first (in_range x.top) (in_range x.bottom) h))) (and-both (whole_fits (take (length digits_of_top) text)) (numeral_fits (drop (suc (length digits_of_top)) text)) top bottom)
+    let top = subst (λ t. IsTrue (whole_fits t)) (sym before) (whole_fits-decimal x.top (and-first (in_range x.top) (in_range x.bottom) h)) in
+    let bottom = subst (λ t. IsTrue (magnitude_fits t)) (sym behind) (magnitude_fits-decimal d (and-second (in_range x.top) (in_range x.bottom) h)) in
+    subst (λ s. IsTrue (fits_at s text)) (sym (slash-behind x.top (signed_decimal x.bottom) (and-first (in_range x.top) (in_range x.bottom) h))) (and-both (whole_fits (take (length digits_of_top) text)) (magnitude_fits (drop (suc (length digits_of_top)) text)) top bottom)
 
 -- either text, by a test
 by-test : (P : List ℕ → Type 0) (b : Bool) (s t : List ℕ) → (b ≡ true → P s) → P t → P (cond b s t)
@@ -168,46 +136,13 @@ by-test P false s t p q = q
 
 -- its bytes
 
-digit-byte : (d : ℕ) → d < 10 → IsWeightByte (48 + d)
-digit-byte d h = record { low = omega arith; high = omega (arith, h); not_less = λ e. absurd (omega (arith, e, h)); not_greater = λ e. absurd (omega (arith, e, h)) }
-
 slash-byte : IsWeightByte 47
 slash-byte = record { low = omega arith; high = omega arith; not_less = λ e. absurd (omega (arith, e)); not_greater = λ e. absurd (omega (arith, e)) }
 
-minus-byte : IsWeightByte 45
-minus-byte = record { low = omega arith; high = omega arith; not_less = λ e. absurd (omega (arith, e)); not_greater = λ e. absurd (omega (arith, e)) }
-
-signed-bytes : (z : ℤ) → All IsWeightByte (signed_decimal z)
-signed-bytes (pos n) = All-decimal IsWeightByte digit-byte n
-signed-bytes (negsuc n) = All-cons IsWeightByte 45 (decimal (suc n)) minus-byte (All-decimal IsWeightByte digit-byte (suc n))
-
 text-bytes : (x : Fraction) → All IsWeightByte (fraction_text x)
-text-bytes x = by-test (All IsWeightByte) (int_eq x.bottom (pos 1)) (signed_decimal x.top) (quotient_text x) (λ e. signed-bytes x.top) (All-append IsWeightByte (signed_decimal x.top) (47 ∷ signed_decimal x.bottom) (signed-bytes x.top) (All-cons IsWeightByte 47 (signed_decimal x.bottom) slash-byte (signed-bytes x.bottom)))
+text-bytes x = by-test (All IsWeightByte) (int_eq x.bottom (pos 1)) (signed_decimal x.top) (quotient_text x) (λ e. whole_bytes x.top) (All-append IsWeightByte (signed_decimal x.top) (47 ∷ signed_decimal x.bottom) (whole_bytes x.top) (All-cons IsWeightByte 47 (signed_decimal x.bottom) slash-byte (whole_bytes x.bottom)))
 
 -- a text whose numbers are in range spells a fraction in range
-
-numeral-in : (text : List ℕ) (d : ℕ) → numeral_of text ≡ Some d → IsTrue (numeral_fits text) → IsTrue (in_range (pos d))
-numeral-in text d e h = grind arith
-
-minus-in : (n : ℕ) → IsTrue (in_range (pos n)) → IsTrue (in_range (neg_ℤ (pos n)))
-minus-in zero h = h
-minus-in (suc n) h = h
-
-signed-in : (b : Option ℕ) (n : ℤ) → ((d : ℕ) → b ≡ Some d → IsTrue (in_range (pos d))) → option_map (λ m. neg_ℤ (pos m)) b ≡ Some n → IsTrue (in_range n)
-signed-in None n h e = absurd (cc)
-signed-in (Some d) n h e = let same : neg_ℤ (pos d) ≡ n = cc in subst (λ z. IsTrue (in_range z)) same (minus-in d (h d refl))
-
-plain-in : (b : Option ℕ) (n : ℤ) → ((d : ℕ) → b ≡ Some d → IsTrue (in_range (pos d))) → option_map pos b ≡ Some n → IsTrue (in_range n)
-plain-in None n h e = absurd (cc)
-plain-in (Some d) n h e = let same : pos d ≡ n = cc in subst (λ z. IsTrue (in_range z)) same (h d refl)
-
-first-in : (b : Bool) (s t : List ℕ) (n : ℤ) → cond b (option_map (λ m. neg_ℤ (pos m)) (numeral_of s)) (option_map pos (numeral_of t)) ≡ Some n → IsTrue (cond b (numeral_fits s) (numeral_fits t)) → IsTrue (in_range n)
-first-in true s t n e h = signed-in (numeral_of s) n (λ d k. numeral-in s d k h) e
-first-in false s t n e h = plain-in (numeral_of t) n (λ d k. numeral-in t d k h) e
-
-whole-in : (text : List ℕ) (n : ℤ) → whole_of text ≡ Some n → IsTrue (whole_fits text) → IsTrue (in_range n)
-whole-in [] n e h = absurd (cc)
-whole-in (c ∷ text) n e h = first-in (c == 45) text (c ∷ text) n e h
 
 quotient-in : (t : Option ℤ) (b : Option ℕ) (x : Fraction) → ((n : ℤ) → t ≡ Some n → IsTrue (in_range n)) → ((d : ℕ) → b ≡ Some d → IsTrue (in_range (pos d))) → quotient_of t b ≡ Some x → IsTrue (holds x)
 quotient-in None b x p q e = absurd (cc)
@@ -219,11 +154,11 @@ one-in : (d : ℕ) → Some 1 ≡ Some d → IsTrue (in_range (pos d))
 one-in d e = let same : 1 ≡ d = cc in subst (λ m. IsTrue (in_range (pos m))) same refl
 
 at-in : (s : Option ℕ) (text : List ℕ) (x : Fraction) → spelled_at s text ≡ Some x → IsTrue (fits_at s text) → IsTrue (holds x)
-at-in None text x e h = quotient-in (whole_of text) (Some 1) x (λ n k. whole-in text n k h) one-in e
+at-in None text x e h = quotient-in (spelled_whole text) (Some 1) x (λ n k. whole-in_range text n k h) one-in e
 at-in (Some at) text x e h =
-    let top = and-first (whole_fits (take at text)) (numeral_fits (drop (suc at) text)) h in
-    let bottom = and-second (whole_fits (take at text)) (numeral_fits (drop (suc at) text)) h in
-    quotient-in (whole_of (take at text)) (numeral_of (drop (suc at) text)) x (λ n k. whole-in (take at text) n k top) (λ d k. numeral-in (drop (suc at) text) d k bottom) e
+    let top = and-first (whole_fits (take at text)) (magnitude_fits (drop (suc at) text)) h in
+    let bottom = and-second (whole_fits (take at text)) (magnitude_fits (drop (suc at) text)) h in
+    quotient-in (spelled_whole (take at text)) (spelled_natural (drop (suc at) text)) x (λ n k. whole-in_range (take at text) n k top) (λ d k. magnitude-in_range (drop (suc at) text) d k bottom) e
 
 pub fraction_texts : TextLaws rationals spelled_fraction fraction_fits fraction_text
 fraction_texts = record {

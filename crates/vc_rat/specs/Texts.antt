@@ -1,33 +1,14 @@
 -- The texts of rational numbers.
-use Rattle.std.specs.Prelude.{ℕ, zero, suc, ◌==◌, ◌^◌, Bool, true, ◌&&◌, List, [], ◌∷◌, ◌++◌, take, drop, Option, None, Some, Result, Ok, Err, ℤ, pos, neg_ℤ, nat_lt, if◌then◌else◌}
+use Rattle.std.specs.Prelude.{ℕ, zero, suc, ◌==◌, Bool, ◌&&◌, List, ◌∷◌, ◌++◌, take, drop, Option, None, Some, Result, Ok, Err, ℤ, pos, if◌then◌else◌}
 use Rattle.std.specs.Fmt.{signed_decimal}
 use Rattle.std.specs.List.{position}
-use Rattle.std.specs.Option.{option_map}
 use Rattle.std.specs.Ordering.{int_eq}
-use Rattle.vc_num.specs.Decimals.{is_numeral, number_of_digits}
+use Rattle.vc_num.specs.Numerals.{spelled_natural, magnitude_fits, spelled_whole, whole_fits}
 use Rattle.vc_ring.specs.declared.faults.NumberFault.{NumberFault}
 use Rattle.vc_ring.specs.declared.faults.NumberFault.TheVariants.{Bad, Overflow}
 use Rattle.vc_rat.specs.Reduced.{positive-suc}
 use Rattle.vc_rat.specs.Rationals.{reduced}
 use Rattle.vc_rat.specs.declared.fraction.Fraction.{Fraction}
-
--- the number of one digit or more
-abbrev pub numeral_of : List ℕ → Option ℕ
-numeral_of text = if is_numeral text then Some (number_of_digits text) else None
-
--- it is at most 2^127 - 1
-abbrev pub numeral_fits : List ℕ → Bool
-numeral_fits text = nat_lt (number_of_digits text) (2 ^ 127)
-
--- the number that digits behind an optional `-` spell
-abbrev pub whole_of : List ℕ → Option ℤ
-whole_of [] = None
-whole_of (c ∷ text) = if c == 45 then option_map (λ n. neg_ℤ (pos n)) (numeral_of text) else option_map pos (numeral_of (c ∷ text))
-
--- it is at most 2^127 - 1 in magnitude
-abbrev pub whole_fits : List ℕ → Bool
-whole_fits [] = true
-whole_fits (c ∷ text) = if c == 45 then numeral_fits text else numeral_fits (c ∷ text)
 
 -- top/bottom, where there are both and the bottom is not zero
 abbrev pub quotient_of : Option ℤ → Option ℕ → Option Fraction
@@ -38,13 +19,13 @@ quotient_of (Some n) (Some (suc d)) = Some (reduced n (suc d) (positive-suc d))
 
 -- of a text whose first `/` is at the place, or that has none
 abbrev pub spelled_at : Option ℕ → List ℕ → Option Fraction
-spelled_at None text = quotient_of (whole_of text) (Some 1)
-spelled_at (Some at) text = quotient_of (whole_of (take at text)) (numeral_of (drop (suc at) text))
+spelled_at None text = quotient_of (spelled_whole text) (Some 1)
+spelled_at (Some at) text = quotient_of (spelled_whole (take at text)) (spelled_natural (drop (suc at) text))
 
 -- and whether its numbers fit
 abbrev pub fits_at : Option ℕ → List ℕ → Bool
 fits_at None text = whole_fits text
-fits_at (Some at) text = whole_fits (take at text) && numeral_fits (drop (suc at) text)
+fits_at (Some at) text = whole_fits (take at text) && magnitude_fits (drop (suc at) text)
 
 -- the place of the first `/`
 abbrev pub slash_in : List ℕ → Option ℕ

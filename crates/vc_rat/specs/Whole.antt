@@ -4,7 +4,7 @@ use Rattle.std.specs.Ordering.{int_eq}
 use Rattle.std.proofs.Common.{refl, ◌∙◌, arith}
 use Rattle.std.proofs.lemmas.Int.{ints}
 use Rattle.std.proofs.Math.IntN.{*ℤ_comm, +ℤ_comm, +ℤ_assoc, zero-*ℤ}
-use Rattle.vc_num.proofs.Whole.{*ℤ_assoc, *ℤ-+ℤ}
+use Rattle.vc_num.specs.Integers.{*ℤ_assoc, *ℤ-+ℤ}
 use Rattle.vc_model.specs.WeightSet.{WeightSet, SemiringLaws}
 
 -- sums and products of whole numbers

@@ -1,12 +1,12 @@
 ghost use Rattle.std.specs.Prelude.{◌≡◌, ◌++◌, ◌<◌, ◌^◌, IsTrue, IfOk, IfSome, OnOk, OnErr, length, string_bytes, pos};
 ghost use Rattle.vc_num.specs.Range.{in_range};
 ghost use Rattle.vc_ring.specs.Texts.{read_as};
-ghost use Rattle.vc_rat.specs.Texts.{numeral_of, numeral_fits, whole_of, whole_fits, quotient_read, slash_in, spelled_fraction, fraction_fits, fraction_text};
+ghost use Rattle.vc_rat.specs.Texts.{quotient_read, slash_in, spelled_fraction, fraction_fits, fraction_text};
 
 use crate::Fraction;
 use itoa::Buffer;
 use std::alloc::AllocError;
-use vc_num::{DecimalFault, read_decimal};
+use vc_num::{read_magnitude, read_whole};
 use vc_ring::NumberFault;
 
 // The number of digits behind an optional `-`, and behind it optionally `/` and digits that are not
@@ -15,7 +15,7 @@ pub(crate) fn read_fraction(text: &[u8]) -> Result<Fraction, NumberFault>
     ensures { result ≡ read_as (spelled_fraction text.now) (fraction_fits text.now) }
 {
     match slash(text) {
-        Some(at) => quotient(read_whole(&text[..at]), read_numeral(&text[at + 1..])),
+        Some(at) => quotient(read_whole(&text[..at]), read_magnitude(&text[at + 1..])),
         None => quotient(read_whole(text), Ok(1)),
     }
 }
@@ -41,28 +41,6 @@ fn quotient(
         (Err(NumberFault::Bad), _) | (_, Ok(0)) => Err(NumberFault::Bad),
         (_, Err(fault)) | (Err(fault), _) => Err(fault),
         (Ok(top), Ok(bottom)) => Ok(Fraction::reduced(top, bottom)),
-    }
-}
-
-// The number of digits behind an optional `-`.
-fn read_whole(text: &[u8]) -> Result<i128, NumberFault>
-    ensures { result ≡ read_as (whole_of text.now) (whole_fits text.now) }
-{
-    match text {
-        [b'-', digits @ ..] => Ok(-(read_numeral(digits)? as i128)),
-        _ => Ok(read_numeral(text)? as i128),
-    }
-}
-
-// The number of digits.
-fn read_numeral(text: &[u8]) -> Result<u128, NumberFault>
-    ensures value { result ≡ read_as (numeral_of text.now) (numeral_fits text.now) }
-    ensures in_range { IfOk result (λ n. IsTrue (in_range (pos n))) }
-{
-    match read_decimal(text) {
-        Ok(number) if number < 1 << 127 => Ok(number),
-        Ok(_) | Err(DecimalFault::Overflow) => Err(NumberFault::Overflow),
-        Err(DecimalFault::NotDigits { .. }) => Err(NumberFault::Bad),
     }
 }
 

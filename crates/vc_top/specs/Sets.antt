@@ -6,12 +6,13 @@ use Rattle.std.specs.Fmt.{signed_decimal}
 use Rattle.vc_basic.specs.Residues.{residues}
 use Rattle.vc_basic.specs.Tropical.{tropical, spelled_tropical, tropical_fits, tropical_text}
 use Rattle.vc_basic.specs.Truths.{truths, spelled_bit, bit_text}
-use Rattle.vc_basic.specs.Wholes.{wholes, spelled_whole, whole_fits}
+use Rattle.vc_basic.specs.Wholes.{wholes}
 use Rattle.vc_basic.specs.declared.tropical.NminValue.{NminValue}
 use Rattle.vc_basic.specs.declared.tropical.NminValue.TheVariants.{Finite, Infinite}
 use Rattle.vc_context.specs.declared.context.Weights.{Weights}
 use Rattle.vc_context.specs.declared.context.Weights.TheVariants.{B, F2, Z, Q, Nmin}
 use Rattle.vc_model.specs.WeightSet.{WeightSet}
+use Rattle.vc_num.specs.Numerals.{spelled_whole, whole_fits}
 use Rattle.vc_rat.specs.Rationals.{rationals}
 use Rattle.vc_rat.specs.Texts.{spelled_fraction, fraction_fits, fraction_text}
 use Rattle.vc_rat.specs.declared.fraction.Fraction.{Fraction}

@@ -1,22 +1,20 @@
 -- Cuts of words of several tapes.
-use Rattle.std.proofs.Common.{◌≡◌, ℕ, zero, suc, ◌<◌, true, false, List, [], ◌∷◌, length, take, drop, refl, ◌∙◌, IsTrue, arith, slice_index_or, Option, Some, None, nat_eq, Bor, MatchOption}
+use Rattle.std.proofs.Common.{cond, ◌≡◌, ℕ, zero, suc, ◌<◌, true, false, List, [], ◌∷◌, length, take, drop, refl, ◌∙◌, IsTrue, arith, slice_index_or, Option, Some, None, nat_eq, Bor, MatchOption}
 use Rattle.std.specs.Prelude.{IfSome, ◌+◌}
 use Rattle.std.specs.Cmp.Lexicographic.{pointwise}
-use Rattle.vc_atoms.proofs.Cuts.{rest_by_prefix}
-use Rattle.vc_label.proofs.Letters.{are_letters_drop}
 use Rattle.vc_label.specs.Letters.{are_letters}
 use Rattle.vc_model.specs.Words.{Word, Tape, rest_after, put_front, cut}
 
 abbrev Stripped : Tape → Tape → Option (Bor (List ℕ)) → Type 0
 Stripped p t r = MatchOption r (pointwise nat_eq (take (length p) t) p ≡ false) (λ x. (pointwise nat_eq (take (length p) t) p ≡ true) × (x.now ≡ drop (length p) t) × (length x.now + length p ≡ length t))
 
-pub rest_is : (p t : Tape) (r : Option (Bor (List ℕ))) → Stripped p t r → MatchOption r (rest_after p t ≡ None) (λ x. rest_after p t ≡ Some x.now)
-rest_is p t None h = rest_by_prefix p t ∙ rw h refl
-rest_is p t (Some x) h = rest_by_prefix p t ∙ rw (h.0, h.1) refl
+pub rest_is : (p t : Tape) (r : Option (Bor (List ℕ))) → rest_after p t ≡ cond (pointwise nat_eq (take (length p) t) p) (Some (drop (length p) t)) None → Stripped p t r → MatchOption r (rest_after p t ≡ None) (λ x. rest_after p t ≡ Some x.now)
+rest_is p t None l h = l ∙ rw h refl
+rest_is p t (Some x) l h = l ∙ rw (h.0, h.1) refl
 
-pub rest_of_letters : (p t : Tape) (r : Option (Bor (List ℕ))) → IsTrue (are_letters t) → Stripped p t r → IfSome r (λ x. IsTrue (are_letters x.now))
+pub rest_of_letters : (p t : Tape) (r : Option (Bor (List ℕ))) → IsTrue (are_letters (drop (length p) t)) → Stripped p t r → IfSome r (λ x. IsTrue (are_letters x.now))
 rest_of_letters p t None l h = tt
-rest_of_letters p t (Some x) l h = rw h.1 (are_letters_drop (length p) t l)
+rest_of_letters p t (Some x) l h = rw h.1 l
 
 abbrev pub at : Word → ℕ → Tape
 at w i = slice_index_or w i []

@@ -5,7 +5,7 @@ use Rattle.std.specs.Cmp.Lexicographic.{slice_cmp, pointwise, bytes_decides}
 use Rattle.std.specs.Ordering.{ordering_then}
 use Rattle.std.specs.declared.cmp.Ordering.{Ordering}
 use Rattle.std.proofs.lemmas.Bool.Decides.{eqb_tells, nat_tests}
-use Rattle.vc_label.proofs.Order.{equal}
+use Rattle.vc_label.specs.OrderLaws.{equal}
 use Rattle.vc_label.specs.Order.{word_order}
 use Rattle.vc_model.specs.Words.{Word}
 use Rattle.vc_tuple.specs.Parts.{before_first, parts_of}

@@ -5,7 +5,7 @@ ghost use Rattle.vc_label.specs.Letters.{are_letters};
 ghost use Rattle.vc_model.specs.Words.{rest_after, cut};
 ghost use Rattle.vc_tuple.specs.Parts.{parts_of};
 
-use vc_label::Word;
+use vc_label::{Word, tapes_are_cut};
 
 /// The part before the first zero, and what follows that zero.
 pub(crate) fn first_part(bytes: &[u8]) -> (&[u8], Option<&[u8]>)
@@ -25,6 +25,7 @@ fn rest<'w>(part: &[u8], tape: &'w [u8]) -> Option<&'w [u8]>
     ensures value { MatchOption result (rest_after part.now tape.entry.now ≡ None) (λ r. rest_after part.now tape.entry.now ≡ Some r.now) }
     ensures letters { IfSome result (λ r. IsTrue (are_letters r.now)) }
 {
+    tapes_are_cut();
     tape.strip_prefix(part)
 }
 

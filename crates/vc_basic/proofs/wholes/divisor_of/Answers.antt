@@ -1,6 +1,6 @@
 use Rattle.std.proofs.Common.{rules, get_or, pos, FitsSigned}
 use mir.Syntax.{w128}
-use Rattle.vc_num.proofs.Divisibility.{gcd_of-zero_left}
+use Rattle.vc_num.specs.Divisibility.{gcd_of-zero_left}
 use Rattle.vc_basic.specs.WholeSplits.{common_divisor}
 use Rattle.vc_basic.proofs.Rows.{divisor_step}
 use Rattle.vc_basic.proofs.wholes.divisor_of.Goals as goal

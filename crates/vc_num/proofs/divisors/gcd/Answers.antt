@@ -1,6 +1,6 @@
 use Rattle.std.proofs.Common.{arith}
 use Rattle.std.proofs.lemmas.Nat.Gcd.{IsGcd-from_zero, IsGcd-from_mod}
-use Rattle.vc_num.proofs.Divisibility.{gcd_of-from}
+use Rattle.vc_num.specs.Divisibility.{gcd_of-from}
 use Rattle.vc_num.proofs.divisors.gcd.Goals as goal
 
 pub loop-y-preserved : goal.loop-y-preserved

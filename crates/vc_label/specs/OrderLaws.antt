@@ -1,4 +1,4 @@
--- The order of labels is total, and equal exactly where the words are.
+-- The laws of the order of labels.
 use Rattle.std.proofs.Common.{◌≡◌, ℕ, List, [], ◌∷◌, refl, sym, ap, ◌∙◌, nat_cmp, Less, Equal, Greater}
 use Rattle.std.specs.Prelude.{◌↔◌}
 use Rattle.std.specs.Cmp.{IsTotalOrder}
@@ -9,6 +9,7 @@ use Rattle.std.proofs.lemmas.Cmp.{nat_list_cmp_total, lists_total, tied_itself, 
 use Rattle.vc_label.specs.Order.{word_order}
 use Rattle.vc_model.specs.Words.{Word}
 
+-- it is total
 pub total : IsTotalOrder word_order
 total = lists_total nat_list_cmp_total
 
@@ -30,5 +31,6 @@ equal_lists R d (x ∷ a) (y ∷ b) h =
 equal_numbers : (x y : ℕ) → nat_cmp x y ≡ Equal → x ≡ y
 equal_numbers x y h = ranked x y Equal (sym h)
 
+-- words are equal in it exactly where they are the same
 pub equal : (v w : Word) → (word_order v w ≡ Equal) ↔ (v ≡ w)
 equal v w = (equal_lists (slice_cmp nat_cmp) (equal_lists nat_cmp equal_numbers) v w, λ e. ap (word_order v) (sym e) ∙ tied_itself total v)

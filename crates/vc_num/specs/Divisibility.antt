@@ -12,9 +12,11 @@ upto-is (suc n) a (suc b) le =
     let below : a % suc b < suc b = mod-lt a {m = suc b} (omega arith) in
     IsGcd-from_mod a (suc b) _ (upto-is n (suc b) (a % suc b) (omega arith))
 
+-- it is the greatest common divisor
 pub gcd_of-is : (a b : ℕ) → IsGcd a b (gcd_of a b)
 gcd_of-is a b = upto-is b a b (omega arith)
 
+-- and there is no other
 pub gcd_of-from : (a b g : ℕ) → IsGcd a b g → g ≡ gcd_of a b
 gcd_of-from a b g h = same_from_IsGcd a b g (gcd_of a b) h (gcd_of-is a b)
 
@@ -42,9 +44,11 @@ gauss a b c e h =
 pub gcd_of-dvd : (a b d : ℕ) → d ∣ a → d ∣ b → d ∣ gcd_of a b
 gcd_of-dvd a b d p q = (gcd_of-is a b).2 d p q
 
+-- whichever number comes first
 pub gcd_of-comm : (a b : ℕ) → gcd_of a b ≡ gcd_of b a
 gcd_of-comm a b = gcd_of-from b a (gcd_of a b) (IsGcd-swap a b (gcd_of a b) (gcd_of-is a b))
 
+-- that of three numbers, whichever two come first
 pub gcd_of-assoc : (a b c : ℕ) → gcd_of (gcd_of a b) c ≡ gcd_of a (gcd_of b c)
 gcd_of-assoc a b c =
     let ab = gcd_of-is a b in
@@ -56,9 +60,7 @@ gcd_of-assoc a b c =
     let common : (d : ℕ) → d ∣ a → d ∣ gcd_of b c → d ∣ g = λ d p q. all.2 d (ab.2 d p (dvd_trans d q bc.0)) (dvd_trans d q bc.1) in
     gcd_of-from a (gcd_of b c) g (first, second, common)
 
-pub gcd_of-zero : (a : ℕ) → gcd_of a 0 ≡ a
-gcd_of-zero a = refl
-
+-- zero in front leaves the other number
 pub gcd_of-zero_left : (a : ℕ) → gcd_of 0 a ≡ a
 gcd_of-zero_left a = gcd_of-comm 0 a
 
@@ -75,9 +77,6 @@ gcd_of-times a b c =
 -- the greatest common divisor with a positive number is positive
 pub gcd_of-positive : (a b : ℕ) → 0 < b → 0 < gcd_of a b
 gcd_of-positive a b p = pos_of_dvd_of_pos (gcd_of-is a b).1 p
-
-pub gcd_of-positive_left : (a b : ℕ) → 0 < a → 0 < gcd_of a b
-gcd_of-positive_left a b p = pos_of_dvd_of_pos (gcd_of-is a b).0 p
 
 -- what is left after division by the greatest common divisor has nothing in common
 pub gcd_of-quotients : (a b : ℕ) → 0 < gcd_of a b → gcd_of (a / gcd_of a b) (b / gcd_of a b) ≡ 1

@@ -23,11 +23,13 @@ numeral-from_digits : (ds : List ℕ) → 0 < length ds → all_ascii_digits ds 
 numeral-from_digits [] l h = absurd (omega (arith, l))
 numeral-from_digits (c ∷ cs) l h = h
 
+-- what is printed is a numeral
 pub is_numeral-decimal : (n : ℕ) → n < 10 ^ 64 → is_numeral (decimal n) ≡ true
 is_numeral-decimal n h =
     let both = decimal_is_IsNumeral_wide n h in
     numeral-from_digits (decimal n) both.0.0 (model.from (decimal n) both.0.1)
 
+-- and it writes the number
 pub number_of_digits-decimal : (n : ℕ) → n < 10 ^ 64 → number_of_digits (decimal n) ≡ n
 number_of_digits-decimal n h =
     let both = decimal_is_IsNumeral_wide n h in
