@@ -49,3 +49,5 @@ pub mod Respelled
 pub mod Rewritten
 mod Refused
 mod Limited
+pub mod Stopped
+pub mod Contexted

@@ -16,6 +16,7 @@ use Rattle.vc_model.specs.Lists.{In}
 use Rattle.vc_model.specs.WeightSet.{WeightSet, SemiringLaws}
 use Rattle.vc_model.specs.Words.{Word}
 use Rattle.vc_model.proofs.GatheredLaws.{gathered_alike}
+use Rattle.vc_daut.specs.ContextLines.{IsContextLine}
 use Rattle.vc_daut.specs.Contexts.{context_text}
 use Rattle.vc_daut.specs.Heads.{HeadLine, head_line}
 use Rattle.vc_daut.specs.Lines.{lines_of}
@@ -81,11 +82,12 @@ module _ {V : Type 0} (R : WeightSet V) where
 
     -- a text spells at most one automaton, over one list of sets and with the name of one weight set
     pub one_whole : ((text : List ℕ) (sets others : List TapeSet) (weights other : Weights) → SpellsContext text sets weights → SpellsContext text others other → (sets ≡ others) × (weights ≡ other))
+        → ((line text : List ℕ) → IsContextLine line text → context_text line ≡ Some text)
         → (text : List ℕ) (sets others : List TapeSet) (weights other : Weights) (a b : Automaton V) → SpellsAutomaton R spelled text sets weights a → SpellsAutomaton R spelled text others other b
         → (sets ≡ others) × (weights ≡ other) × (a ≡ b)
-    one_whole one text sets others weights other a b s t =
+    one_whole one complete text sets others weights other a b s t =
         let h : t.head ≡ s.head = heads t.head s.head (head_line 1 (lines_of text)) t.is_head s.is_head in
-        let c : t.context ≡ s.context = texts t.context s.context (context_text s.head.line) (subst (λ (k : HeadLine). context_text k.line ≡ Some t.context) h t.is_context) s.is_context in
+        let c : t.context ≡ s.context = texts t.context s.context (context_text s.head.line) (complete s.head.line t.context (subst (λ (k : HeadLine). IsContextLine k.line t.context) h t.is_context)) (complete s.head.line s.context s.is_context) in
         let k = one s.context sets others weights other s.spells (subst (λ x. SpellsContext x others other) c t.spells) in (
           k.0,
           k.1,

@@ -19,6 +19,8 @@ use Rattle.vc_model.specs.WeightSet.{WeightSet, SemiringLaws}
 use Rattle.vc_model.specs.Words.{Word}
 use Rattle.vc_ring.specs.Texts.{TextLaws}
 use Rattle.vc_daut.specs.Canonical.{automaton_text}
+use Rattle.vc_daut.specs.ContextLines.{IsContextLine}
+use Rattle.vc_daut.specs.Contexts as contexts
 use Rattle.vc_daut.specs.Marks.{Mark, HasMarks, marks_of}
 use Rattle.vc_daut.specs.Spelling.{SpellsAutomaton}
 use Rattle.vc_daut.proofs.Reheaded.{text_reread}
@@ -28,13 +30,14 @@ use Rattle.vc_daut.proofs.Respelled.{respelled}
 pub text_spells : ((s : Alphabet) (x : ℕ) → has_letter s x ≡ true → IsTrue (is_letter x)) → ((s : Alphabet) (x : ℕ) → In x (letters_of s) ↔ (has_letter s x ≡ true))
     → ((ss : List TapeSet) (w : Word) → IsOverSets ss w → IsTrue (is_of_letters w))
     → IsTotalOrder word_order → ((v w : Word) → (word_order v w ≡ Equal) ↔ (v ≡ w))
+    → ((line text : List ℕ) → contexts.context_text line ≡ Some text → IsContextLine line text)
     → ((line : List ℕ) (ms : List Mark) → HasMarks line 0 ms → marks_of line ≡ Some ms)
     → ((sets : List TapeSet) (weights : Weights) → 1 ≤ length sets → length sets ≤ 4 → SpellsContext (context_text sets weights) sets weights)
     → {V : Type 0} (R : WeightSet V) → SemiringLaws R → (same : V → V → Bool) → IsEqualityTest same
     → (spelled : List ℕ → Option V) (fit : List ℕ → Bool) (canonical : V → List ℕ) → TextLaws R spelled fit canonical
     → (a : Labelled V) (weights : Weights) → 1 ≤ length a.sets → length a.sets ≤ 4 → IsLabelled R a
     → SpellsAutomaton R spelled (automaton_text R same canonical a.sets weights a.automaton) a.sets weights a.automaton
-text_spells letter listed letters total equal complete written R laws same is_same spelled fit canonical texts a weights some few valid =
-    text_reread letter listed R same is_same spelled fit canonical texts letters complete a.sets weights a.automaton some
+text_spells letter listed letters total equal read complete written R laws same is_same spelled fit canonical texts a weights some few valid =
+    text_reread letter listed R same is_same spelled fit canonical texts letters read complete a.sets weights a.automaton some
     (lines_are_valid R same a valid) (written a.sets weights some few)
-    (λ lines read are reread. respelled laws total equal same is_same a valid spelled lines read are reread)
+    (λ lines said are reread. respelled laws total equal same is_same a valid spelled lines said are reread)

@@ -4,6 +4,8 @@ ghost use Rattle.vc_context.specs.declared.context.Weights.{Weights};
 ghost use Rattle.vc_daut.specs.Additions.{HasManyTriples, IsUnfitAddition};
 ghost use Rattle.vc_daut.specs.Answers.{IsBuilt, IsPastLimit, IsReadBehind, IsUnfit};
 ghost use Rattle.vc_daut.specs.Canonical.{automaton_text};
+ghost use Rattle.vc_daut.specs.ContextLines.{IsContextLine};
+ghost use Rattle.vc_daut.specs.Contexts.{context_text};
 ghost use Rattle.vc_daut.specs.declared.fault.DautFault.{DautFault};
 ghost use Rattle.vc_daut.specs.Heads.{HeadLine};
 ghost use Rattle.vc_daut.specs.Marks.{HasMarks, Mark, marks_of};
@@ -41,6 +43,15 @@ pub fn lines_have_their_tokens()
     tokens_follow_the_grammar();
 }
 
+/// The context text of a line is that of the grammar: it is read exactly where the line is a context line with this
+/// text. So a line has at most one context text.
+pub fn context_lines_have_one_text()
+    ensures sound { (line text : List ℕ) → context_text line ≡ Some text → IsContextLine line text }
+    ensures complete { (line text : List ℕ) → IsContextLine line text → context_text line ≡ Some text }
+{
+    tokens_follow_the_grammar();
+}
+
 /// A text spells at most one automaton, over one list of label sets and with the name of one weight set. So do the lines
 /// behind a context line.
 pub fn texts_spell_one_automaton<V>()
@@ -52,6 +63,7 @@ pub fn texts_spell_one_automaton<V>()
 {
     lines_have_their_tokens();
     contexts_have_texts();
+    context_lines_have_one_text();
 }
 
 /// What the reader may answer on one text: want of memory apart, one automaton, one line that is outside the grammar, one
@@ -90,5 +102,6 @@ pub fn automata_have_texts<L: LabelSet, S: Semiring>(aut: &Automaton<L, S>)
     words_are_over_sets();
     words_are_ordered();
     contexts_have_texts();
+    context_lines_have_one_text();
     lines_have_their_tokens();
 }

@@ -6,4 +6,4 @@ pub returns-clause-behind : goal.returns-clause-behind
 returns-clause-behind g c R L spelled = one_behind R L spelled (names_once spelled c.lines_have_their_tokens.ensures.sound)
 
 pub returns-clause-whole : goal.returns-clause-whole
-returns-clause-whole g c R L spelled = one_whole R L spelled (names_once spelled c.lines_have_their_tokens.ensures.sound) c.contexts_have_texts.ensures.one
+returns-clause-whole g c R L spelled = one_whole R L spelled (names_once spelled c.lines_have_their_tokens.ensures.sound) c.contexts_have_texts.ensures.one c.context_lines_have_one_text.ensures.complete
