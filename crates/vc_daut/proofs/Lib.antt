@@ -39,6 +39,7 @@ mod Escaped
 mod Unique
 mod Written
 mod Exclusive
+pub mod Ranked
 mod One
 pub mod Decimals
 pub mod Placed

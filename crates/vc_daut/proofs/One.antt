@@ -1,15 +1,15 @@
 -- A text spells at most one automaton.
 use Rattle.std.proofs.Common.{◌≡◌, ℕ, Bool, true, false, List, [], ◌∷◌, length, Option, Some, Less, Equal, Greater, refl, sym, ap, ◌∙◌, subst, inl, inr}
+use Rattle.std.specs.Cmp.{IsTotalOrder}
 use Rattle.std.specs.List.{flat_map, AllByRecursion}
 use Rattle.std.specs.Ordering.{is_lt, ordering_reverse}
 use Rattle.std.specs.declared.cmp.Ordering.{Ordering}
 use Rattle.std.proofs.lemmas.Map.Keys.{sorted_head, sorted_tail}
 use Rattle.vc_aut.specs.Order.{triple_order, AreInOrder}
-use Rattle.vc_aut.proofs.Order.{triple_order_total}
 use Rattle.vc_context.specs.Spelling.{SpellsContext}
 use Rattle.vc_context.specs.declared.context.Weights.{Weights}
+use Rattle.vc_label.specs.Order.{word_order}
 use Rattle.vc_label.specs.declared.tape_set.TapeSet.{TapeSet}
-use Rattle.vc_label.proofs.Order.{total, equal}
 use Rattle.vc_model.specs.Automata.{Automaton, Transition, triple}
 use Rattle.vc_model.specs.Gathered.{IsAscending}
 use Rattle.vc_model.specs.Lists.{In}
@@ -23,9 +23,10 @@ use Rattle.vc_daut.specs.Lines.{lines_of}
 use Rattle.vc_daut.specs.Meaning.{Given, moving, given_by, number_of, IsSumOf}
 use Rattle.vc_daut.specs.Names.{AreNames}
 use Rattle.vc_daut.specs.Spelling.{lines_in, Spells, SpellsAutomaton}
+use Rattle.vc_daut.proofs.Ranked.{triples_total}
 use Rattle.vc_daut.proofs.Written.{lines_once}
 
-module _ {V : Type 0} (R : WeightSet V) where
+module _ {V : Type 0} (R : WeightSet V) (total : IsTotalOrder word_order) where
   -- a transition with the triple
   with_triple : ℕ × Word × ℕ → Transition V
   with_triple d = record { from = d.0; label = d.1; to = d.2; weight = R.zero }
@@ -35,7 +36,7 @@ module _ {V : Type 0} (R : WeightSet V) where
 
   one_way : (a b : ℕ × Word × ℕ) → before a b ≡ true → before b a ≡ false
   unfolding before
-  one_way a b h = go (triple_order (with_triple a) (with_triple b)) h (triple_order (with_triple b) (with_triple a)) ((triple_order_total total equal).antisymm (with_triple a) (with_triple b))
+  one_way a b h = go (triple_order (with_triple a) (with_triple b)) h (triple_order (with_triple b) (with_triple a)) ((triples_total total).antisymm (with_triple a) (with_triple b))
     where
       go : (o : Ordering) → is_lt o ≡ true → (p : Ordering) → o ≡ ordering_reverse p → is_lt p ≡ false
       go o h Less e = absurd (cc (sym (ap is_lt e) ∙ h))

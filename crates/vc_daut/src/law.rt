@@ -61,6 +61,7 @@ pub fn texts_spell_one_automaton<V>()
         (weights other : Weights) (a b : Model V) → SpellsAutomaton R spelled text sets weights a → SpellsAutomaton R spelled text others other b
         → (sets ≡ others) × (weights ≡ other) × (a ≡ b) }
 {
+    words_are_ordered();
     lines_have_their_tokens();
     contexts_have_texts();
     context_lines_have_one_text();
@@ -87,6 +88,7 @@ pub fn refusals_are_additions<V>()
         (sets : List TapeSet) (h : HeadLine) (most : ℕ)
         → IsPastLimit R same spelled fit sets h (record { what = Transitions; most = most }) → (most ≡ 4000000) × HasManyTriples R spelled sets h }
 {
+    words_are_ordered();
     drafts_are_sums::<V>();
     transitions_are_added::<V>();
 }
@@ -100,7 +102,6 @@ pub fn automata_have_texts<L: LabelSet, S: Semiring>(aut: &Automaton<L, S>)
     automata_are_valid(aut);
     alphabets_are_sets();
     words_are_over_sets();
-    words_are_ordered();
     contexts_have_texts();
     context_lines_have_one_text();
     lines_have_their_tokens();
