@@ -32,3 +32,5 @@ pub use write::write_daut;
 mod context_tests;
 #[cfg(test)]
 mod tests;
+#[cfg(test)]
+mod write_tests;
