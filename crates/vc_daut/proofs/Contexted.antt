@@ -38,26 +38,25 @@ unblanked [] = record { blanks = []; are_blanks = refl; whole = refl; no_blank =
   where
     none : BeginsBlank [] → ⊥
     none (y, rest, is, f) = cc f
-unblanked (x ∷ s) = go (is_blank x) refl (unblanked s)
+unblanked (x ∷ s) =
+    let u = unblanked s in
+    record { blanks = front (is_blank x) u; are_blanks = are (is_blank x) refl u; whole = whole (is_blank x) u; no_blank = unblank (is_blank x) refl u }
   where
-    front : (b : Bool) → is_blank x ≡ b → IsUnblanked s → List ℕ
-    front true e u = x ∷ u.blanks
-    front false e u = []
+    front : Bool → IsUnblanked s → List ℕ
+    front true u = x ∷ u.blanks
+    front false u = []
 
-    are : (b : Bool) (e : is_blank x ≡ b) (u : IsUnblanked s) → AreBlanks (front b e u)
+    are : (b : Bool) → is_blank x ≡ b → (u : IsUnblanked s) → AreBlanks (front b u)
     are true e u = ap₂ (λ a c. a && c) e u.are_blanks
     are false e u = refl
 
-    whole : (b : Bool) (e : is_blank x ≡ b) (u : IsUnblanked s) → x ∷ s ≡ front b e u ++ (if b then behind_blanks s else x ∷ s)
-    whole true e u = ap (λ t. x ∷ t) u.whole
-    whole false e u = refl
+    whole : (b : Bool) (u : IsUnblanked s) → x ∷ s ≡ front b u ++ (if b then behind_blanks s else x ∷ s)
+    whole true u = ap (λ t. x ∷ t) u.whole
+    whole false u = refl
 
-    unblank : (b : Bool) (e : is_blank x ≡ b) (u : IsUnblanked s) → BeginsBlank (if b then behind_blanks s else x ∷ s) → ⊥
+    unblank : (b : Bool) → is_blank x ≡ b → IsUnblanked s → BeginsBlank (if b then behind_blanks s else x ∷ s) → ⊥
     unblank true e u = u.no_blank
     unblank false e u = begun_blank x s e
-
-    go : (b : Bool) → is_blank x ≡ b → IsUnblanked s → IsUnblanked (x ∷ s)
-    go b e u = record { blanks = front (is_blank x) refl u; are_blanks = are (is_blank x) refl u; whole = whole (is_blank x) refl u; no_blank = unblank (is_blank x) refl u }
 
 -- blanks are passed
 blanks_passed : (blanks s : List ℕ) → AreBlanks blanks → behind_blanks (blanks ++ s) ≡ behind_blanks s
