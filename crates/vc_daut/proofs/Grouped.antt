@@ -16,13 +16,20 @@ use Rattle.vc_model.specs.Words.{Word}
 use Rattle.vc_daut.specs.Canonical.{TextLine, moves_line, line_to, to_state, lines_by_target}
 use Rattle.std.proofs.lemmas.List.Sorted.{IsNonDecreasingBy-drop, All-permutation}
 use Rattle.std.specs.List.Sorted.{IsPermutation}
-use Rattle.vc_aut.proofs.Valid.{length_over_sets}
 use Rattle.vc_aut.specs.Validity.{IsMove}
+use Rattle.vc_label.specs.Sets.{IsOverSets}
 use Rattle.vc_label.specs.declared.tape_set.TapeSet.{TapeSet}
 use Rattle.vc_model.specs.WeightSet.{WeightSet}
 use Rattle.vc_daut.specs.Growing.{lent, IsFront, IsEntry}
 use Rattle.vc_daut.proofs.Fronts.{front_twice, front_of}
 use Rattle.vc_daut.proofs.Printed.{take_whole}
+
+-- a word over sets has as many parts
+length_over_sets : (sets : List TapeSet) (w : Word) → IsOverSets sets w → length w ≡ length sets
+length_over_sets [] [] h = refl
+length_over_sets [] (a ∷ w) h = absurd h
+length_over_sets (s ∷ ss) [] h = absurd h
+length_over_sets (s ∷ ss) (a ∷ w) h = ap (λ n. suc n) (length_over_sets ss w h.1)
 
 -- ---- filters
 

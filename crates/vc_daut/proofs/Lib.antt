@@ -39,6 +39,7 @@ mod Escaped
 mod Unique
 mod Written
 mod Exclusive
+pub mod Ranked
 mod One
 pub mod Decimals
 pub mod Placed
@@ -49,3 +50,5 @@ pub mod Respelled
 pub mod Rewritten
 mod Refused
 mod Limited
+pub mod Stopped
+pub mod Contexted

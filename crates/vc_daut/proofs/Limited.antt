@@ -1,6 +1,7 @@
 -- Transitions that are refused have one source, label and target too many.
 use Rattle.std.proofs.Common.{◌≡◌, ◌≤◌, ◌⊎◌, ℕ, Bool, true, false, List, [], ◌∷◌, length, map, Option, Some, None, refl, ap, sym, ◌∙◌, subst, inl, inr, arith}
 use Rattle.std.specs.Prelude.{◌↔◌, if◌then◌else◌, nat_lt}
+use Rattle.std.specs.declared.cmp.Ordering.TheVariants.{Equal}
 use Rattle.std.specs.List.{flat_map}
 use Rattle.std.proofs.lemmas.Bool.{ltb-false}
 use Rattle.std.proofs.lemmas.List.{length-map}
@@ -8,9 +9,8 @@ use Rattle.vc_aut.specs.Drafts.{empty_draft}
 use Rattle.vc_aut.specs.Order.{AreInOrder}
 use Rattle.vc_aut.specs.Refusals.{weight_refusal}
 use Rattle.vc_aut.specs.Sums.{insert_transition, insert_all, standing}
-use Rattle.vc_aut.proofs.Order.{once_in_order}
 use Rattle.vc_label.specs.declared.tape_set.TapeSet.{TapeSet}
-use Rattle.vc_label.specs.OrderLaws.{total, equal}
+use Rattle.vc_label.specs.Order.{word_order}
 use Rattle.vc_model.specs.Automata.{Transition, triple}
 use Rattle.vc_model.specs.Lists.{In}
 use Rattle.vc_model.specs.WeightSet.{WeightSet, SemiringLaws}
@@ -27,6 +27,7 @@ use Rattle.vc_daut.specs.Building.{given_refusal, sum_refusal, with_all}
 use Rattle.vc_daut.specs.Heads.{HeadLine}
 use Rattle.vc_daut.specs.Meaning.{Given, begins, ends, moves_by, moving}
 use Rattle.vc_daut.specs.Passes.{with_states}
+use Rattle.vc_daut.proofs.Ranked.{once_in_order}
 use Rattle.vc_daut.proofs.Added.{all_added, begun}
 use Rattle.vc_daut.proofs.Refused.{refusal}
 
@@ -55,7 +56,7 @@ module _ {V : Type 0} (R : WeightSet V) where
       go true e o f h = absurd (cc)
       go false e o f h = let k : l ≡ moves_limit = cc in record { none = refl; limit = k; many = ltb-false count 4000000 e }
 
-  module _ (L : SemiringLaws R)
+  module _ (L : SemiringLaws R) (equal : (v w : Word) → (word_order v w ≡ Equal) ↔ (v ≡ w))
       (ordered : (added : List (Transition V)) → AreInOrder (insert_all R [] added))
       (stands : (ts : List (Transition V)) (t : Transition V) (w : V) → AreInOrder ts → In (record t { weight = w }) ts → standing ts t ≡ Some w)
       (triples : (ts : List (Transition V)) (t : Transition V) (d : ℕ × Word × ℕ) → In d (map triple (insert_transition R ts t)) ↔ ((d ≡ triple t) ⊎ In d (map triple ts))) where
@@ -91,7 +92,7 @@ module _ {V : Type 0} (R : WeightSet V) where
         let l = length-map ts triple in
         record {
           triples = triple t ∷ map triple ts;
-          once = ((λ i. none_stands ts t (ordered added) n i), once_in_order total equal ts (ordered added));
+          once = ((λ i. none_stands ts t (ordered added) n i), once_in_order equal ts (ordered added));
           named = λ d i. elim i [
             | inl q ↦ subst (λ z. In z (map triple (flat_map (moving R) gs))) (sym q) (In-map triple t (flat_map (moving R) gs) (In-flat_map (moving R) t (moves_by t) gs m (inl refl)))
             | inr j ↦ given_triple front gs d f (subst (λ us. In d (map triple us)) e (old d (added_triple [] added d j)))

@@ -1,30 +1,32 @@
 -- A text spells at most one automaton.
 use Rattle.std.proofs.Common.{◌≡◌, ℕ, Bool, true, false, List, [], ◌∷◌, length, Option, Some, Less, Equal, Greater, refl, sym, ap, ◌∙◌, subst, inl, inr}
+use Rattle.std.specs.Cmp.{IsTotalOrder}
 use Rattle.std.specs.List.{flat_map, AllByRecursion}
 use Rattle.std.specs.Ordering.{is_lt, ordering_reverse}
 use Rattle.std.specs.declared.cmp.Ordering.{Ordering}
 use Rattle.std.proofs.lemmas.Map.Keys.{sorted_head, sorted_tail}
 use Rattle.vc_aut.specs.Order.{triple_order, AreInOrder}
-use Rattle.vc_aut.proofs.Order.{triple_order_total}
 use Rattle.vc_context.specs.Spelling.{SpellsContext}
 use Rattle.vc_context.specs.declared.context.Weights.{Weights}
+use Rattle.vc_label.specs.Order.{word_order}
 use Rattle.vc_label.specs.declared.tape_set.TapeSet.{TapeSet}
-use Rattle.vc_label.specs.OrderLaws.{total, equal}
 use Rattle.vc_model.specs.Automata.{Automaton, Transition, triple}
 use Rattle.vc_model.specs.Gathered.{IsAscending}
 use Rattle.vc_model.specs.Lists.{In}
 use Rattle.vc_model.specs.WeightSet.{WeightSet, SemiringLaws}
 use Rattle.vc_model.specs.Words.{Word}
 use Rattle.vc_model.proofs.GatheredLaws.{gathered_alike}
+use Rattle.vc_daut.specs.ContextLines.{IsContextLine}
 use Rattle.vc_daut.specs.Contexts.{context_text}
 use Rattle.vc_daut.specs.Heads.{HeadLine, head_line}
 use Rattle.vc_daut.specs.Lines.{lines_of}
 use Rattle.vc_daut.specs.Meaning.{Given, moving, given_by, number_of, IsSumOf}
 use Rattle.vc_daut.specs.Names.{AreNames}
 use Rattle.vc_daut.specs.Spelling.{lines_in, Spells, SpellsAutomaton}
+use Rattle.vc_daut.proofs.Ranked.{triples_total}
 use Rattle.vc_daut.proofs.Written.{lines_once}
 
-module _ {V : Type 0} (R : WeightSet V) where
+module _ {V : Type 0} (R : WeightSet V) (total : IsTotalOrder word_order) where
   -- a transition with the triple
   with_triple : ℕ × Word × ℕ → Transition V
   with_triple d = record { from = d.0; label = d.1; to = d.2; weight = R.zero }
@@ -34,7 +36,7 @@ module _ {V : Type 0} (R : WeightSet V) where
 
   one_way : (a b : ℕ × Word × ℕ) → before a b ≡ true → before b a ≡ false
   unfolding before
-  one_way a b h = go (triple_order (with_triple a) (with_triple b)) h (triple_order (with_triple b) (with_triple a)) ((triple_order_total total equal).antisymm (with_triple a) (with_triple b))
+  one_way a b h = go (triple_order (with_triple a) (with_triple b)) h (triple_order (with_triple b) (with_triple a)) ((triples_total total).antisymm (with_triple a) (with_triple b))
     where
       go : (o : Ordering) → is_lt o ≡ true → (p : Ordering) → o ≡ ordering_reverse p → is_lt p ≡ false
       go o h Less e = absurd (cc (sym (ap is_lt e) ∙ h))
@@ -81,11 +83,12 @@ module _ {V : Type 0} (R : WeightSet V) where
 
     -- a text spells at most one automaton, over one list of sets and with the name of one weight set
     pub one_whole : ((text : List ℕ) (sets others : List TapeSet) (weights other : Weights) → SpellsContext text sets weights → SpellsContext text others other → (sets ≡ others) × (weights ≡ other))
+        → ((line text : List ℕ) → IsContextLine line text → context_text line ≡ Some text)
         → (text : List ℕ) (sets others : List TapeSet) (weights other : Weights) (a b : Automaton V) → SpellsAutomaton R spelled text sets weights a → SpellsAutomaton R spelled text others other b
         → (sets ≡ others) × (weights ≡ other) × (a ≡ b)
-    one_whole one text sets others weights other a b s t =
+    one_whole one complete text sets others weights other a b s t =
         let h : t.head ≡ s.head = heads t.head s.head (head_line 1 (lines_of text)) t.is_head s.is_head in
-        let c : t.context ≡ s.context = texts t.context s.context (context_text s.head.line) (subst (λ (k : HeadLine). context_text k.line ≡ Some t.context) h t.is_context) s.is_context in
+        let c : t.context ≡ s.context = texts t.context s.context (context_text s.head.line) (complete s.head.line t.context (subst (λ (k : HeadLine). IsContextLine k.line t.context) h t.is_context)) (complete s.head.line s.context s.is_context) in
         let k = one s.context sets others weights other s.spells (subst (λ x. SpellsContext x others other) c t.spells) in (
           k.0,
           k.1,

@@ -1,7 +1,8 @@
 -- What is refused is an addition that does not fit, or one triple too many.
 use Rattle.std.proofs.Common.{◌≡◌, ◌<◌, ◌+◌, ◌++◌, ℕ, zero, suc, Bool, true, false, List, [], ◌∷◌, length, map, cond, not, get_or, Option, Some, None, refl, ap, ap₂, sym, ◌∙◌, subst, inl, inr, arith}
-use Rattle.std.specs.Prelude.{if◌then◌else◌, nat_lt}
+use Rattle.std.specs.Prelude.{◌↔◌, if◌then◌else◌, nat_lt}
 use Rattle.std.specs.List.{flat_map}
+use Rattle.std.specs.declared.cmp.Ordering.TheVariants.{Equal}
 use Rattle.std.specs.Str.{bytes_eq}
 use Rattle.std.proofs.lemmas.List.{append_assoc}
 use Rattle.std.proofs.lemmas.Slice.Eq.{bytes_eq-Decides}
@@ -9,9 +10,8 @@ use Rattle.vc_aut.specs.Drafts.{Draft, empty_draft}
 use Rattle.vc_aut.specs.Order.{AreInOrder}
 use Rattle.vc_aut.specs.Refusals.{weight_refusal}
 use Rattle.vc_aut.specs.Sums.{insert_all, standing}
-use Rattle.vc_aut.proofs.Order.{once_in_order}
 use Rattle.vc_label.specs.declared.tape_set.TapeSet.{TapeSet}
-use Rattle.vc_label.specs.OrderLaws.{total, equal}
+use Rattle.vc_label.specs.Order.{word_order}
 use Rattle.vc_model.specs.Automata.{Transition, triple}
 use Rattle.vc_model.specs.Gathered.{weight_at}
 use Rattle.vc_model.specs.Lists.{In, up_from}
@@ -34,6 +34,7 @@ use Rattle.vc_daut.specs.Meaning.{Given, begins, ends, moves_by, moves_with, beg
 use Rattle.vc_daut.specs.Names.{line_names}
 use Rattle.vc_daut.specs.Passes.{IsRefusedAt, with_states}
 use Rattle.vc_daut.specs.Spelling.{lines_in}
+use Rattle.vc_daut.proofs.Ranked.{once_in_order}
 use Rattle.vc_daut.proofs.Added.{IsAddedUp, all_added, begun}
 use Rattle.vc_daut.proofs.Gained.{with_all-append}
 
@@ -172,7 +173,7 @@ module _ {V : Type 0} (R : WeightSet V) (spelled : List ℕ → Option V) (fit :
       go true h = absurd (cc)
       go false h = absurd (cc)
 
-  module _ (L : SemiringLaws R)
+  module _ (L : SemiringLaws R) (equal : (v w : Word) → (word_order v w ≡ Equal) ↔ (v ≡ w))
       (weights : (added : List (Transition V)) (d : ℕ × Word × ℕ) → weight_at R (insert_all R [] added) d ≡ weight_at R added d)
       (ordered : (added : List (Transition V)) → AreInOrder (insert_all R [] added))
       (stands : (ts : List (Transition V)) (t : Transition V) (w : V) → AreInOrder ts → standing ts t ≡ Some w → In (record t { weight = w }) ts) where
@@ -184,7 +185,7 @@ module _ {V : Type 0} (R : WeightSet V) (spelled : List ℕ → Option V) (fit :
     standing_sum : (added : List (Transition V)) (t : Transition V) (u : V) → standing (insert_all R [] added) t ≡ Some u → u ≡ weight_at R added (triple t)
     standing_sum added t u e =
         let ts = insert_all R [] added in
-        sym (member_weight L ts (once_in_order total equal ts (ordered added)) (record t { weight = u }) (stands ts t u (ordered added) e)) ∙ weights added (triple t)
+        sym (member_weight L ts (once_in_order equal ts (ordered added)) (record t { weight = u }) (stands ts t u (ordered added) e)) ∙ weights added (triple t)
 
     addition : (n most : ℕ) (sets : List TapeSet) (front : List (Given V)) (g : Given V) (v w : V) → IsWithin n g
         → given_refusal R (with_all R (with_states R n (empty_draft most sets)) front) g ≡ Some (Unfit (Add v w)) → IsRefusedSum (sum_standing R front g) (given_weight g) v w

@@ -1,22 +1,16 @@
 -- The transitions that the lines of the canonical text give are those of the automaton.
-use Rattle.std.proofs.Common.{◌≡◌, ◌≢◌, ◌<◌, ℕ, Bool, List, [], ◌∷◌, map, cond, refl, ap, ap₂, sym, ◌∙◌, arith}
-use Rattle.std.specs.Prelude.{◌↔◌, ◌==◌}
-use Rattle.std.specs.Cmp.{IsTotalOrder}
+use Rattle.std.proofs.Common.{◌≡◌, ◌<◌, ℕ, Bool, List, [], ◌∷◌, length, map, cond, refl, ap, ap₂, sym, ◌∙◌, arith}
+use Rattle.std.specs.Prelude.{◌==◌}
 use Rattle.std.specs.Fmt.{decimal}
 use Rattle.std.specs.List.{flat_map}
-use Rattle.std.specs.declared.cmp.Ordering.TheVariants.{Equal}
 use Rattle.std.proofs.lemmas.Bool.{eqb-true}
-use Rattle.vc_label.specs.Order.{word_order}
 use Rattle.vc_aut.specs.Labelled.{Labelled}
 use Rattle.vc_aut.specs.Validity.{IsLabelled}
-use Rattle.vc_aut.proofs.Order.{once_in_order}
-use Rattle.vc_aut.proofs.Valid.{of_member}
-use Rattle.vc_model.specs.Automata.{Transition, triple}
+use Rattle.vc_model.specs.Automata.{IsAutomaton, Transition, triple}
 use Rattle.vc_model.specs.Gathered.{same_triple}
 use Rattle.vc_model.specs.Lists.{In, below, IsEqualityTest}
 use Rattle.vc_model.specs.Sums.{sum_over}
 use Rattle.vc_model.specs.WeightSet.{WeightSet, SemiringLaws}
-use Rattle.vc_model.specs.Words.{Word}
 use Rattle.vc_model.proofs.Members.{In-up_from, In-filter_from}
 use Rattle.vc_model.proofs.Rearranged.{zero_plus}
 use Rattle.vc_model.proofs.SumLaws.{sum-map, sum-flat_map, sum_same, sum_zero}
@@ -85,14 +79,14 @@ module _ {V : Type 0} {R : WeightSet V} (L : SemiringLaws R) (same : V → V →
         ∙ zero_plus L _
 
   -- what the lines give adds up to the automaton
-  pub text_is_sum : IsTotalOrder word_order → ((v w : Word) → (word_order v w ≡ Equal) ↔ (v ≡ w)) → IsSumOf R states all_given a.automaton
-  text_is_sum total equal = record {
+  pub text_is_sum : IsAutomaton R (length a.sets) a.automaton → IsSumOf R states all_given a.automaton
+  text_is_sum is = record {
     states = refl;
     initial = listed_at (λ p. sum_over R (beginning R p) all_given) a.automaton.initial R.zero states valid.drawn.initial (initial_sum L same T a.automaton number numbers);
     final = listed_at (λ p. sum_over R (ending R p) all_given) a.automaton.final R.zero states valid.drawn.final (final_sum L same T a.automaton number numbers);
     transitions = record {
-      triples = once_in_order total equal a.automaton.transitions valid.drawn.order;
-      weight = λ t i. of_member (λ (u : Transition V). u.weight ≢ R.zero) t a.automaton.transitions valid.weight i;
+      triples = is.triples;
+      weight = is.weight;
       sums = λ d. sym (given_moves (λ t. cond (same_triple (triple t) d) t.weight R.zero));
     };
   }

@@ -1,5 +1,5 @@
 -- The canonical text of an automaton is read: its head, its context and its lines.
-use Rattle.std.proofs.Common.{◌≡◌, ℕ, ◌+◌, ◌≤◌, ◌↔◌, Bool, true, List, [], ◌∷◌, ◌++◌, length, map, codes, All, Option, Some, ap, ◌∙◌}
+use Rattle.std.proofs.Common.{◌≡◌, ℕ, ◌+◌, ◌≤◌, ◌↔◌, Bool, true, List, ◌++◌, length, map, codes, All, Option, Some, ap, ◌∙◌}
 use Rattle.std.specs.Prelude.{IsTrue, if◌then◌else◌}
 use Rattle.vc_context.specs.Canonical.{context_text}
 use Rattle.vc_context.specs.Spelling.{SpellsContext}
@@ -15,6 +15,7 @@ use Rattle.vc_model.specs.WeightSet.{WeightSet}
 use Rattle.vc_model.specs.Words.{Word}
 use Rattle.vc_ring.specs.Texts.{TextLaws, IsWeightByte}
 use Rattle.vc_daut.specs.Canonical.{automaton_lines, automaton_text}
+use Rattle.vc_daut.specs.ContextLines.{IsContextLine}
 use Rattle.vc_daut.specs.Contexts as contexts
 use Rattle.vc_daut.specs.Heads.{head_line}
 use Rattle.vc_daut.specs.Grammar.{Line}
@@ -51,6 +52,7 @@ module _ (letter : (s : Alphabet) (x : ℕ) → has_letter s x ≡ true → IsTr
   module _ {V : Type 0} (R : WeightSet V) (same : V → V → Bool) (is_same : IsEqualityTest same)
       (spelled : List ℕ → Option V) (fit : List ℕ → Bool) (canonical : V → List ℕ) (laws : TextLaws R spelled fit canonical)
       (letters : (ss : List TapeSet) (w : Word) → IsOverSets ss w → IsTrue (is_of_letters w))
+      (read : (line text : List ℕ) → contexts.context_text line ≡ Some text → IsContextLine line text)
       (complete : (line : List ℕ) (ms : List Mark) → HasMarks line 0 ms → marks_of line ≡ Some ms) where
     -- where lines that say what those of the automaton say spell it, its canonical text spells it with its context
     pub text_reread : (sets : List TapeSet) (weights : Weights) (a : Automaton V) → 1 ≤ length sets → AreTextLines R sets (automaton_lines R same a)
@@ -58,13 +60,13 @@ module _ (letter : (s : Alphabet) (x : ℕ) → has_letter s x ≡ true → IsTr
         → ((texts : List (List ℕ)) (lines : List Line) → AreLines spelled texts lines → AreReread R spelled sets (automaton_lines R same a) lines → Spells R spelled sets texts a)
         → SpellsAutomaton R spelled (automaton_text R same canonical sets weights a) sets weights a
     text_reread sets weights a some h spells respelled =
-        let read = are_reread R same is_same spelled fit canonical laws sets some letters complete (automaton_lines R same a) h in
+        let lines = are_reread R same is_same spelled fit canonical laws sets some letters complete (automaton_lines R same a) h in
         let texts : List (List ℕ) = map (body R same canonical) (automaton_lines R same a) in
         record {
           head = record { number = 1; line = context_line sets weights; behind = texts };
           context = context_text sets weights;
           is_head = head_reread R same canonical laws.bytes letters sets weights a h;
-          is_context = context_reread sets weights;
+          is_context = read (context_line sets weights) (context_text sets weights) (context_reread sets weights);
           spells = spells;
-          behind = respelled texts read.0 read.1 read.2;
+          behind = respelled texts lines.0 lines.1 lines.2;
         }

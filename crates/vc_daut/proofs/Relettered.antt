@@ -9,7 +9,6 @@ use Rattle.vc_label.specs.Letters.{is_letter, are_letters}
 use Rattle.vc_lex.specs.Grammar.{SpellsLetter, IsLetter, Several, Each, joined}
 use Rattle.vc_lex.specs.Letters.{is_plain, is_escaped}
 use Rattle.vc_lex.specs.Scans.{is_blank}
-use Rattle.vc_lex.proofs.Begun.{slash_is_not_plain}
 use Rattle.vc_model.specs.Words.{Tape}
 use Rattle.vc_daut.specs.Labels.{unescaped}
 use Rattle.vc_daut.proofs.Tokened.{IsInk, ink_at}
@@ -23,6 +22,10 @@ blank_is_not_plain = refl
 tab_is_not_plain : is_plain 9 ≡ false
 unfolding is_plain
 tab_is_not_plain = refl
+
+slash_is_not_plain : is_plain 92 ≡ false
+unfolding is_plain
+slash_is_not_plain = refl
 
 -- a plain letter is another byte than one that is not plain
 pub plain_differs : (x c : ℕ) → is_plain c ≡ false → is_plain x ≡ true → (x == c) ≡ false

@@ -1,12 +1,12 @@
 -- The lines of the canonical text may be written, and the names in them are the decimals of the states.
-use Rattle.std.proofs.Common.{◌≡◌, ◌<◌, ◌↔◌, ℕ, Bool, true, List, [], ◌∷◌, map, refl, sym, subst, arith, inl, inr}
+use Rattle.std.proofs.Common.{◌≡◌, ◌<◌, ◌↔◌, ℕ, Bool, true, List, [], ◌∷◌, map, All, refl, sym, subst, arith, inl, inr}
 use Rattle.std.specs.Prelude.{◌==◌}
 use Rattle.std.specs.Fmt.{decimal}
 use Rattle.std.specs.List.{flat_map}
+use Rattle.std.proofs.lemmas.List.Elements.{All-head, All-tail}
 use Rattle.vc_label.specs.declared.tape_set.TapeSet.{TapeSet}
 use Rattle.vc_aut.specs.Labelled.{Labelled}
 use Rattle.vc_aut.specs.Validity.{IsLabelled, IsMove}
-use Rattle.vc_aut.proofs.Valid.{of_member}
 use Rattle.vc_model.specs.Automata.{Transition}
 use Rattle.vc_model.specs.Lists.{In, below}
 use Rattle.vc_model.specs.WeightSet.{WeightSet}
@@ -36,6 +36,12 @@ one_name n p name h (inr i) = absurd i
 two_names : (n p q : ℕ) (name : List ℕ) → p < n → q < n → In name (decimal p ∷ decimal q ∷ []) → IsStateName n name
 two_names n p q name h k (inl e) = (p, h, e)
 two_names n p q name h k (inr i) = one_name n q name k i
+
+-- what holds of each member
+of_member : {X : Type 0} (P : X → Type 0) (x : X) (xs : List X) → All P xs → In x xs → P x
+of_member P x [] h i = absurd i
+of_member P x (y ∷ ys) h (inl e) = subst P (sym e) (All-head P y ys h)
+of_member P x (y ∷ ys) h (inr i) = of_member P x ys (All-tail P y ys h) i
 
 module _ {V : Type 0} (R : WeightSet V) (same : V → V → Bool) (a : Labelled V) (valid : IsLabelled R a) where
   abbrev states : ℕ

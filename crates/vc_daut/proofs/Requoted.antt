@@ -1,9 +1,9 @@
 -- The context line of the canonical text is read as the context.
-use Rattle.std.proofs.Common.{◌≡◌, ℕ, ◌+◌, ◌<◌, ◌↔◌, Bool, true, false, not, ◌&&◌, ◌==◌, List, [], ◌∷◌, ◌++◌, length, take, drop, codes, Some, None, refl, ap, ap₂, sym, ◌∙◌, inl, inr, arith, append_assoc, length-append, add-zero}
+use Rattle.std.proofs.Common.{◌≡◌, ℕ, ◌+◌, ◌↔◌, Bool, true, false, not, ◌&&◌, ◌==◌, List, [], ◌∷◌, ◌++◌, length, take, drop, codes, Some, None, refl, ap, ap₂, ◌∙◌, inl, inr, arith, append_assoc, length-append, add-zero}
 use Rattle.std.specs.Prelude.{IsTrue, nat_le, nat_lt, if◌then◌else◌}
-use Rattle.std.specs.Option.{option_map_or}
+use Rattle.std.specs.Option.{option_map, option_map_or}
 use Rattle.std.specs.List.{list_all, flat_map}
-use Rattle.std.proofs.Math.Seq.{take-append_seam, drop-append_seam}
+use Rattle.std.proofs.Math.Seq.{take-append_seam, drop-append-add}
 use Rattle.std.proofs.lemmas.Bool.{and_parts, lt-ltb}
 use Rattle.vc_context.specs.Canonical.{letter_text, kind_name, tape_text, comma_text, labels_text, context_text}
 use Rattle.vc_context.specs.Spelling.{weights_name}
@@ -15,13 +15,12 @@ use Rattle.vc_label.specs.declared.alphabet.Alphabet.{Alphabet}
 use Rattle.vc_label.specs.declared.tape_set.TapeKind.{TapeKind}
 use Rattle.vc_label.specs.declared.tape_set.TapeKind.TheVariants.{Letters, Nullable, Words}
 use Rattle.vc_label.specs.declared.tape_set.TapeSet.{TapeSet}
+use Rattle.vc_lex.specs.declared.letters.LetterAt.{LetterAt}
 use Rattle.vc_lex.specs.Letters.{is_plain, is_escaped}
 use Rattle.vc_lex.specs.Fronts.{front}
 use Rattle.vc_lex.specs.Scans.{letter_width, line_token}
 use Rattle.vc_lex.specs.declared.scan.Scan.TheVariants.{Found}
 use Rattle.vc_lex.specs.declared.token.TokenKind.TheVariants.{Run}
-use Rattle.vc_lex.proofs.Begun.{letter_begins}
-use Rattle.vc_lex.proofs.Pieces.{drop_twice}
 use Rattle.vc_model.specs.Lists.{In}
 use Rattle.vc_daut.specs.Contexts.{before, begins_quote, quoted}
 use Rattle.vc_daut.specs.Contexts as contexts
@@ -140,7 +139,7 @@ quoted_read s h =
     let text : List ℕ = s ++ 34 ∷ [] in
     let end : before begins_quote text ≡ length s = h.passed (34 ∷ []) ∙ add-zero (length s) in
     let within : nat_lt (length s) (length text) ≡ true = lt-ltb (length s) (length text) (omega (arith, length-append s (34 ∷ []))) in
-    let behind : drop (length s + 1) text ≡ [] = sym (drop_twice (length s) 1 text) ∙ ap (drop 1) (drop-append_seam s (34 ∷ [])) in
+    let behind : drop (length s + 1) text ≡ [] = drop-append-add s (34 ∷ []) 1 in
     ap (λ n. if nat_lt n (length text) && is_blank_line (drop (n + 1) text) then Some (take n text) else None) end
     ∙ ap₂ (λ b t. if b && is_blank_line t then Some (take (length s) text) else None) within behind
     ∙ ap Some (take-append_seam s (34 ∷ []))
@@ -153,9 +152,14 @@ first_is_plain : is_plain 99 ≡ true
 unfolding is_plain
 first_is_plain = refl
 
+-- a letter begins it
+first_begins : (s : List ℕ) → letter_width (99 ∷ s) ≡ Some 1
+first_begins [] = ap (λ b. option_map (λ (l : LetterAt). l.after) (if b then Some (record { letter = 99; after = 0 + 1 }) else None)) first_is_plain
+first_begins (y ∷ s) = ap (λ b. option_map (λ (l : LetterAt). l.after) (if b then Some (record { letter = 99; after = 0 + 1 }) else None)) first_is_plain
+
 -- and that line is not blank
 pub context_line_stands : (s : List ℕ) → is_blank_line (codes "context = \"" ++ s) ≡ false
 context_line_stands s =
     let behind : List ℕ = codes "ontext = \"" ++ s in
     ap (λ o. is_end (option_map_or (λ width. Found Run (front letter_width (99 ∷ behind))) o (line_token 99 behind)))
-    (letter_begins (99 ∷ []) behind (99, inl (first_is_plain, refl)))
+    (first_begins behind)

@@ -1,5 +1,5 @@
 -- What is read where a line of the canonical text of an automaton stands.
-use Rattle.std.proofs.Common.{◌≡◌, ◌≢◌, ◌<◌, ◌^◌, ℕ, Bool, List, [], ◌∷◌, map, Option, Some}
+use Rattle.std.proofs.Common.{◌≡◌, ◌≢◌, ℕ, List, [], ◌∷◌, map, Option}
 use Rattle.std.specs.Prelude.{IsTrue, ⊤}
 use Rattle.std.specs.Fmt.{decimal}
 use Rattle.vc_label.specs.Sets.{IsOverSets}
@@ -7,8 +7,7 @@ use Rattle.vc_label.specs.declared.tape_set.TapeSet.{TapeSet}
 use Rattle.vc_model.specs.Automata.{Transition}
 use Rattle.vc_model.specs.WeightSet.{WeightSet}
 use Rattle.vc_daut.specs.Canonical.{TextLine, begins_line, moves_line, ends_line, state_line}
-use Rattle.vc_daut.specs.Grammar.{Line, line_at}
-use Rattle.vc_daut.specs.Grammar as grammar
+use Rattle.vc_daut.specs.Grammar.{Line}
 use Rattle.vc_daut.specs.Meaning.{Given, begins, ends, moves_by, given_by}
 use Rattle.vc_daut.specs.Names.{line_names}
 use Rattle.vc_daut.specs.Spelling.{IsLineOver}

@@ -1,17 +1,13 @@
 -- The canonical text of an automaton spells it, where its lines are read back.
 use Rattle.std.proofs.Common.{◌≡◌, ℕ, Bool, List, [], ◌∷◌, ◌++◌, map, length, Option, refl, ap₂, sym, subst}
-use Rattle.std.specs.Prelude.{◌↔◌}
-use Rattle.std.specs.Cmp.{IsTotalOrder}
 use Rattle.std.specs.Fmt.{decimal}
 use Rattle.std.specs.List.{flat_map}
-use Rattle.std.specs.declared.cmp.Ordering.TheVariants.{Equal}
-use Rattle.vc_label.specs.Order.{word_order}
 use Rattle.vc_label.specs.declared.tape_set.TapeSet.{TapeSet}
 use Rattle.vc_aut.specs.Labelled.{Labelled}
 use Rattle.vc_aut.specs.Validity.{IsLabelled}
+use Rattle.vc_model.specs.Automata.{IsAutomaton}
 use Rattle.vc_model.specs.Lists.{below, IsEqualityTest}
 use Rattle.vc_model.specs.WeightSet.{WeightSet, SemiringLaws}
-use Rattle.vc_model.specs.Words.{Word}
 use Rattle.vc_daut.specs.Canonical.{TextLine, automaton_lines}
 use Rattle.vc_daut.specs.Grammar.{Line}
 use Rattle.vc_daut.specs.Meaning.{given_by, number_of, IsSumOf}
@@ -45,14 +41,13 @@ module _ {V : Type 0} (R : WeightSet V) (spelled : List ℕ → Option V) (sets 
   reread_given number (t ∷ ts) (l ∷ ls) h = ap₂ ◌++◌ (h.0.given number) (reread_given number ts ls h.1)
 
 -- lines that say what the lines of the canonical text say spell the automaton
-pub respelled : {V : Type 0} {R : WeightSet V} → SemiringLaws R → (total : IsTotalOrder word_order) → ((v w : Word) → (word_order v w ≡ Equal) ↔ (v ≡ w))
-    → (same : V → V → Bool) → IsEqualityTest same → (a : Labelled V) → IsLabelled R a → (spelled : List ℕ → Option V) (texts : List (List ℕ)) (lines : List Line)
+pub respelled : {V : Type 0} {R : WeightSet V} → SemiringLaws R → (same : V → V → Bool) → IsEqualityTest same → (a : Labelled V) → IsLabelled R a → IsAutomaton R (length a.sets) a.automaton → (spelled : List ℕ → Option V) (texts : List (List ℕ)) (lines : List Line)
     → AreLines spelled texts lines → AreReread R spelled a.sets (automaton_lines R same a.automaton) lines → Spells R spelled a.sets texts a.automaton
-respelled {V} {R} L total equal same T a valid spelled texts lines are reread =
+respelled {V} {R} L same T a valid is spelled texts lines are reread =
     let written = automaton_lines R same a.automaton in
     let names = map decimal (below a.automaton.states) in
     let sum : IsSumOf R (length names) (flat_map (text_given (number_of names)) written) a.automaton =
-    subst (λ n. IsSumOf R n (flat_map (text_given (number_of names)) written) a.automaton) (sym (length-decimals a.automaton.states)) (text_is_sum L same T a valid total equal) in
+    subst (λ n. IsSumOf R n (flat_map (text_given (number_of names)) written) a.automaton) (sym (length-decimals a.automaton.states)) (text_is_sum L same T a valid is) in
     record {
       lines = lines;
       names = names;

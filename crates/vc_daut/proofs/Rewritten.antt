@@ -1,8 +1,6 @@
 -- The canonical text of an automaton spells it.
 use Rattle.std.proofs.Common.{◌≡◌, ℕ, ◌≤◌, ◌↔◌, Bool, true, List, length, Option, Some}
 use Rattle.std.specs.Prelude.{IsTrue}
-use Rattle.std.specs.Cmp.{IsTotalOrder}
-use Rattle.std.specs.declared.cmp.Ordering.TheVariants.{Equal}
 use Rattle.vc_aut.specs.Labelled.{Labelled}
 use Rattle.vc_aut.specs.Validity.{IsLabelled}
 use Rattle.vc_context.specs.Canonical.{context_text}
@@ -10,15 +8,17 @@ use Rattle.vc_context.specs.Spelling.{SpellsContext}
 use Rattle.vc_context.specs.declared.context.Weights.{Weights}
 use Rattle.vc_label.specs.Alphabets.{has_letter, letters_of}
 use Rattle.vc_label.specs.Letters.{is_letter, is_of_letters}
-use Rattle.vc_label.specs.Order.{word_order}
 use Rattle.vc_label.specs.Sets.{IsOverSets}
 use Rattle.vc_label.specs.declared.alphabet.Alphabet.{Alphabet}
 use Rattle.vc_label.specs.declared.tape_set.TapeSet.{TapeSet}
+use Rattle.vc_model.specs.Automata.{IsAutomaton}
 use Rattle.vc_model.specs.Lists.{In, IsEqualityTest}
 use Rattle.vc_model.specs.WeightSet.{WeightSet, SemiringLaws}
 use Rattle.vc_model.specs.Words.{Word}
 use Rattle.vc_ring.specs.Texts.{TextLaws}
 use Rattle.vc_daut.specs.Canonical.{automaton_text}
+use Rattle.vc_daut.specs.ContextLines.{IsContextLine}
+use Rattle.vc_daut.specs.Contexts as contexts
 use Rattle.vc_daut.specs.Marks.{Mark, HasMarks, marks_of}
 use Rattle.vc_daut.specs.Spelling.{SpellsAutomaton}
 use Rattle.vc_daut.proofs.Reheaded.{text_reread}
@@ -27,14 +27,14 @@ use Rattle.vc_daut.proofs.Respelled.{respelled}
 
 pub text_spells : ((s : Alphabet) (x : ℕ) → has_letter s x ≡ true → IsTrue (is_letter x)) → ((s : Alphabet) (x : ℕ) → In x (letters_of s) ↔ (has_letter s x ≡ true))
     → ((ss : List TapeSet) (w : Word) → IsOverSets ss w → IsTrue (is_of_letters w))
-    → IsTotalOrder word_order → ((v w : Word) → (word_order v w ≡ Equal) ↔ (v ≡ w))
+    → ((line text : List ℕ) → contexts.context_text line ≡ Some text → IsContextLine line text)
     → ((line : List ℕ) (ms : List Mark) → HasMarks line 0 ms → marks_of line ≡ Some ms)
     → ((sets : List TapeSet) (weights : Weights) → 1 ≤ length sets → length sets ≤ 4 → SpellsContext (context_text sets weights) sets weights)
     → {V : Type 0} (R : WeightSet V) → SemiringLaws R → (same : V → V → Bool) → IsEqualityTest same
     → (spelled : List ℕ → Option V) (fit : List ℕ → Bool) (canonical : V → List ℕ) → TextLaws R spelled fit canonical
-    → (a : Labelled V) (weights : Weights) → 1 ≤ length a.sets → length a.sets ≤ 4 → IsLabelled R a
+    → (a : Labelled V) (weights : Weights) → 1 ≤ length a.sets → length a.sets ≤ 4 → IsLabelled R a → IsAutomaton R (length a.sets) a.automaton
     → SpellsAutomaton R spelled (automaton_text R same canonical a.sets weights a.automaton) a.sets weights a.automaton
-text_spells letter listed letters total equal complete written R laws same is_same spelled fit canonical texts a weights some few valid =
-    text_reread letter listed R same is_same spelled fit canonical texts letters complete a.sets weights a.automaton some
+text_spells letter listed letters read complete written R laws same is_same spelled fit canonical texts a weights some few valid is =
+    text_reread letter listed R same is_same spelled fit canonical texts letters read complete a.sets weights a.automaton some
     (lines_are_valid R same a valid) (written a.sets weights some few)
-    (λ lines read are reread. respelled laws total equal same is_same a valid spelled lines read are reread)
+    (λ lines said are reread. respelled laws same is_same a valid is spelled lines said are reread)

@@ -3,13 +3,13 @@ use Rattle.std.proofs.Common.{◌≡◌, ℕ, ◌+◌, ◌-◌, Bool, true, fals
 use Rattle.std.specs.Prelude.{⊤}
 use Rattle.std.specs.List.{prefix_len, list_all}
 use Rattle.std.proofs.Math.Seq.{take-append_seam, drop-append_seam}
+use Rattle.std.proofs.lemmas.Grind.{common_steps}
 use Rattle.vc_lex.specs.Grammar.{IsTokenText, EndsBefore, BeginsToken}
 use Rattle.vc_lex.specs.Letters.{is_plain}
 use Rattle.vc_lex.specs.Scans.{is_blank}
 use Rattle.vc_lex.specs.declared.token.Mode.TheVariants.{Line}
 use Rattle.vc_lex.specs.declared.token.TokenKind.{TokenKind}
 use Rattle.vc_lex.specs.declared.token.TokenKind.TheVariants.{Run}
-use Rattle.vc_lex.proofs.Pieces.{drop_twice}
 use Rattle.vc_daut.specs.Marks.{Mark, IsNext, HasMarks, next_at, marks_of}
 
 -- a token, with the blanks before it
@@ -42,6 +42,9 @@ pub record IsSet (p : Piece) (rest : List ℕ) : Type 0 where
 abbrev pub AreSet : List Piece → Type 0
 AreSet [] = ⊤
 AreSet (p ∷ ps) = IsSet p (spread ps) × AreSet ps
+
+drop_twice : (i j : ℕ) (s : List ℕ) → drop j (drop i s) ≡ drop (i + j) s
+drop_twice i j s = grind (arith, common_steps)
 
 behind : (line a b : List ℕ) (n : ℕ) → drop n line ≡ a ++ b → drop (n + length a) line ≡ b
 behind line a b n e = sym (drop_twice n (length a) line) ∙ ap (drop (length a)) e ∙ drop-append_seam a b

@@ -11,6 +11,7 @@ use Rattle.vc_lex.specs.Letters.{is_escaped}
 use Rattle.vc_lex.specs.Scans.{is_blank, begins_with}
 use Rattle.vc_daut.specs.declared.fault.HeadFault.{HeadFault}
 use Rattle.vc_daut.specs.declared.fault.HeadFault.TheVariants.{Syntax}
+use Rattle.vc_daut.specs.ContextLines.{IsContextLine}
 use Rattle.vc_daut.specs.Heads.{HeadLine, is_blank_line}
 
 -- the text behind the blanks at its front
@@ -61,5 +62,5 @@ context_text line =
 abbrev pub IsContextOf : ℕ → Option HeadLine → Result AnyContext HeadFault → Type 0
 IsContextOf last None (Ok c) = ⊥
 IsContextOf last None (Err (Syntax n)) = n ≡ last
-IsContextOf last (Some h) (Ok c) = (text : List ℕ) × (context_text h.line ≡ Some text) × SpellsContext text (tapes_of c.labels) c.weights
-IsContextOf last (Some h) (Err (Syntax n)) = (n ≡ h.number) × ((text : List ℕ) (sets : List TapeSet) (weights : Weights) → context_text h.line ≡ Some text → SpellsContext text sets weights → ⊥)
+IsContextOf last (Some h) (Ok c) = (text : List ℕ) × IsContextLine h.line text × SpellsContext text (tapes_of c.labels) c.weights
+IsContextOf last (Some h) (Err (Syntax n)) = (n ≡ h.number) × ((text : List ℕ) (sets : List TapeSet) (weights : Weights) → IsContextLine h.line text → SpellsContext text sets weights → ⊥)

@@ -10,6 +10,7 @@ pub mod Classes
 pub mod Spelling
 pub mod Passes
 pub mod Heads
+pub mod ContextLines
 pub mod Contexts
 pub mod Answers
 pub mod Keys

@@ -8,7 +8,7 @@ use Rattle.vc_context.specs.declared.context.Weights.{Weights}
 use Rattle.vc_label.specs.declared.tape_set.TapeSet.{TapeSet}
 use Rattle.vc_model.specs.Automata.{Automaton}
 use Rattle.vc_model.specs.WeightSet.{WeightSet}
-use Rattle.vc_daut.specs.Contexts.{context_text}
+use Rattle.vc_daut.specs.ContextLines.{IsContextLine}
 use Rattle.vc_daut.specs.Heads.{HeadLine, head_line}
 use Rattle.vc_daut.specs.Lines.{lines_of}
 use Rattle.vc_daut.specs.Marks.{Mark, span_of}
@@ -90,6 +90,6 @@ pub record SpellsAutomaton {V : Type 0} (R : WeightSet V) (spelled : List ℕ �
   pub head : HeadLine
   pub context : List ℕ
   pub is_head : head_line 1 (lines_of text) ≡ Some head
-  pub is_context : context_text head.line ≡ Some context
+  pub is_context : IsContextLine head.line context
   pub spells : SpellsContext context sets weights
   pub behind : Spells R spelled sets head.behind automaton

@@ -7,6 +7,7 @@ ghost use Rattle.vc_lex.specs.Letters.{is_escaped};
 
 use crate::fault::HeadFault;
 use crate::head::{Head, head_of, is_blank_line};
+use crate::law::context_lines_have_one_text;
 use vc_context::{AnyContext, read_context};
 
 /// The text behind the blanks at its front.
@@ -133,6 +134,7 @@ fn context_text(line: &[u8]) -> Option<&[u8]>
 pub fn daut_context(bytes: &[u8]) -> Result<AnyContext, HeadFault>
     ensures { IsContextOf (length (lines_of bytes.now)) (head_line 1 (lines_of bytes.now)) result }
 {
+    context_lines_have_one_text();
     let (number, line) = match head_of(bytes) {
         Head::Blank(line) => return Err(HeadFault::Syntax { line }),
         Head::Line(number, line, _) => (number, line),

@@ -4,6 +4,8 @@ ghost use Rattle.vc_context.specs.declared.context.Weights.{Weights};
 ghost use Rattle.vc_daut.specs.Additions.{HasManyTriples, IsUnfitAddition};
 ghost use Rattle.vc_daut.specs.Answers.{IsBuilt, IsPastLimit, IsReadBehind, IsUnfit};
 ghost use Rattle.vc_daut.specs.Canonical.{automaton_text};
+ghost use Rattle.vc_daut.specs.ContextLines.{IsContextLine};
+ghost use Rattle.vc_daut.specs.Contexts.{context_text};
 ghost use Rattle.vc_daut.specs.declared.fault.DautFault.{DautFault};
 ghost use Rattle.vc_daut.specs.Heads.{HeadLine};
 ghost use Rattle.vc_daut.specs.Marks.{HasMarks, Mark, marks_of};
@@ -41,6 +43,15 @@ pub fn lines_have_their_tokens()
     tokens_follow_the_grammar();
 }
 
+/// The context text of a line is that of the grammar: it is read exactly where the line is a context line with this
+/// text. So a line has at most one context text.
+pub fn context_lines_have_one_text()
+    ensures sound { (line text : List ℕ) → context_text line ≡ Some text → IsContextLine line text }
+    ensures complete { (line text : List ℕ) → IsContextLine line text → context_text line ≡ Some text }
+{
+    tokens_follow_the_grammar();
+}
+
 /// A text spells at most one automaton, over one list of label sets and with the name of one weight set. So do the lines
 /// behind a context line.
 pub fn texts_spell_one_automaton<V>()
@@ -50,8 +61,10 @@ pub fn texts_spell_one_automaton<V>()
         (weights other : Weights) (a b : Model V) → SpellsAutomaton R spelled text sets weights a → SpellsAutomaton R spelled text others other b
         → (sets ≡ others) × (weights ≡ other) × (a ≡ b) }
 {
+    words_are_ordered();
     lines_have_their_tokens();
     contexts_have_texts();
+    context_lines_have_one_text();
 }
 
 /// What the reader may answer on one text: want of memory apart, one automaton, one line that is outside the grammar, one
@@ -75,6 +88,7 @@ pub fn refusals_are_additions<V>()
         (sets : List TapeSet) (h : HeadLine) (most : ℕ)
         → IsPastLimit R same spelled fit sets h (record { what = Transitions; most = most }) → (most ≡ 4000000) × HasManyTriples R spelled sets h }
 {
+    words_are_ordered();
     drafts_are_sums::<V>();
     transitions_are_added::<V>();
 }
@@ -88,7 +102,7 @@ pub fn automata_have_texts<L: LabelSet, S: Semiring>(aut: &Automaton<L, S>)
     automata_are_valid(aut);
     alphabets_are_sets();
     words_are_over_sets();
-    words_are_ordered();
     contexts_have_texts();
+    context_lines_have_one_text();
     lines_have_their_tokens();
 }

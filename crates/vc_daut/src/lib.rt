@@ -21,8 +21,9 @@ mod write;
 pub use context::daut_context;
 pub use fault::{DautFault, HeadFault};
 pub use law::{
-    automata_have_texts, built_automata_are_spelled, lines_have_their_tokens,
-    readings_exclude_each_other, refusals_are_additions, texts_spell_one_automaton,
+    automata_have_texts, built_automata_are_spelled, context_lines_have_one_text,
+    lines_have_their_tokens, readings_exclude_each_other, refusals_are_additions,
+    texts_spell_one_automaton,
 };
 pub use read::read_daut;
 pub use write::write_daut;
@@ -31,3 +32,5 @@ pub use write::write_daut;
 mod context_tests;
 #[cfg(test)]
 mod tests;
+#[cfg(test)]
+mod write_tests;

@@ -1,4 +1,4 @@
-use Rattle.std.proofs.Common.{◌≡◌, ◌<◌, ◌≤◌, ◌+◌, length, false, subst, sym, rules, arith}
+use Rattle.std.proofs.Common.{◌≡◌, ◌<◌, ◌+◌, length, false, subst, sym, rules, arith}
 use Rattle.vc_daut.specs.Contexts.{before, begins_comment}
 use Rattle.vc_daut.proofs.Before.{still_before}
 use Rattle.vc_daut.proofs.context.before_comment.Goals as goal
