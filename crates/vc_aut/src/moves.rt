@@ -7,6 +7,7 @@ ghost use Rattle.vc_aut.specs.Sums.{insert_transition};
 use crate::transition::Transition;
 use std::alloc::{AllocError, Global};
 use std::collections::BTreeMap;
+use std::collections::btree_map::Entry;
 use vc_label::LabelSet;
 use vc_ring::{Limit, MakeFault, Measure, Semiring};
 
@@ -29,31 +30,58 @@ pub(crate) fn add<L: LabelSet, S: Semiring>(
     ensures err { OnErr result (moves.new.entries ≡ moves.old.entries) }
     ensures answer { IsAnswer (transition_refusal S.set (map (entry_transition L.parts) moves.old.entries) (record { from = from; label = L.parts label; to = to; weight = weight })) result }
 {
-    let key = (from, label, to);
-    match moves.get(&key) {
-        Some(old) => {
-            let sum = match S::add(*old, weight) {
+    if moves.len() >= MOST_TRANSITIONS {
+        return add_to_most::<L, S>(moves, from, label, to, weight);
+    }
+    match moves.entry((from, label, to)) {
+        Ok(Entry::Occupied(mut entry)) => {
+            let sum = match S::add(*entry.get(), weight) {
                 Ok(sum) => sum,
                 Err(overflow) => return Err(MakeFault::Overflow(overflow)),
             };
-            let Ok(_) = moves.insert(key, sum) else {
-                return Err(MakeFault::Memory(AllocError));
-            };
-            Ok(())
+            entry.insert(sum);
+            return Ok(());
         }
-        None => {
-            if moves.len() >= MOST_TRANSITIONS {
-                return Err(MakeFault::Limit(Limit {
-                    what: Measure::Transitions,
-                    most: MOST_TRANSITIONS as u64,
-                }));
-            }
-            let Ok(_) = moves.insert(key, weight) else {
-                return Err(MakeFault::Memory(AllocError));
-            };
-            Ok(())
+        Ok(Entry::Vacant(entry)) => {
+            entry.insert(weight);
+            return Ok(());
         }
+        Err(_) => return Err(MakeFault::Memory(AllocError)),
     }
+}
+
+/// Adds a weight at a triple where the most transitions stand.
+fn add_to_most<L: LabelSet, S: Semiring>(
+    moves: &mut Moves<L, S>,
+    from: u32,
+    label: L::Label,
+    to: u32,
+    weight: S::Value,
+) -> Result<(), MakeFault<S::Value>>
+    requires most { 4000000 ≤ length moves.old.entries }
+    requires weights { All (λ e. IsTrue (S.set.in_range e.1)) moves.old.entries }
+    requires weight { IsTrue (S.set.in_range weight) }
+    ensures ok { OnOk result (map (entry_transition L.parts) moves.new.entries ≡ insert_transition S.set (map (entry_transition L.parts) moves.old.entries) (record { from = from; label = L.parts label; to = to; weight = weight })) }
+    ensures err { OnErr result (moves.new.entries ≡ moves.old.entries) }
+    ensures answer { IsAnswer (transition_refusal S.set (map (entry_transition L.parts) moves.old.entries) (record { from = from; label = L.parts label; to = to; weight = weight })) result }
+{
+    let key = (from, label, to);
+    let sum = match moves.get(&key) {
+        Some(old) => match S::add(*old, weight) {
+            Ok(sum) => sum,
+            Err(overflow) => return Err(MakeFault::Overflow(overflow)),
+        },
+        None => {
+            return Err(MakeFault::Limit(Limit {
+                what: Measure::Transitions,
+                most: MOST_TRANSITIONS as u64,
+            }));
+        }
+    };
+    let Ok(_) = moves.insert(key, sum) else {
+        return Err(MakeFault::Memory(AllocError));
+    };
+    Ok(())
 }
 
 /// The transitions whose weight is not zero, in order.

@@ -6,6 +6,7 @@ pub mod Ranges
 pub mod Parts
 pub mod Digits
 pub mod Found
+pub mod Numbered
 pub mod Judged
 pub mod Checked
 pub mod Lettered

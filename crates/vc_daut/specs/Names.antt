@@ -68,3 +68,8 @@ with_name names name = if list_any (bytes_eq name) names then names else names +
 abbrev pub with_names : List (List ℕ) → List (List ℕ) → List (List ℕ)
 with_names names [] = names
 with_names names (a ∷ more) = with_names (with_name names a) more
+
+-- each name is the number of its place, where the first one has the place n
+abbrev pub AreNumbers : ℕ → List (List ℕ) → Type 0
+AreNumbers n [] = ⊤
+AreNumbers n (a ∷ names) = (value_of a ≡ n) × AreNumbers (n + 1) names

@@ -5,7 +5,7 @@ ghost use Rattle.vc_daut.specs.Classes.{class_has, given_at};
 ghost use Rattle.vc_daut.specs.Grammar.{are_parts, entries_of, entry_label, entry_weight, has_labels, have_labels, is_label, name_of};
 ghost use Rattle.vc_daut.specs.Labels.{IsClassOver, IsLabelOver, class_words, parts_word};
 ghost use Rattle.vc_daut.specs.Meaning.{begins, ends, given_by, given_by_entry, given_by_entries, moves_with, number_of, only, weight_of};
-ghost use Rattle.vc_daut.specs.Names.{line_names};
+ghost use Rattle.vc_daut.specs.Names.{AreNumbers, line_names};
 ghost use Rattle.vc_daut.specs.Spelling.{AreEntriesOver, IsLineOver};
 ghost use Rattle.vc_daut.specs.Views.{seen, line_seen, names_seen};
 ghost use Rattle.vc_label.specs.Sets.{IsOverSets};
@@ -14,7 +14,7 @@ ghost use Rattle.vc_model.specs.Lists.{In};
 use crate::class::Class;
 use crate::label::{Tapes, parts_label};
 use crate::line::{Line, class_body, cut_entry, entry_of, inside, is_class, name_of};
-use crate::names::Names;
+use crate::names::{Names, is_number, value_of};
 use std::alloc::Global;
 use std::slice;
 use vc_aut::{Builder, drafts_are_valid};
@@ -39,14 +39,21 @@ fn weight_of<S: Semiring>(token: Option<Token<'_>>) -> Result<S::Value, MakeFaul
     }
 }
 
-/// The number of a state that has a name among these.
-fn number(names: &Names<'_>, state: Token<'_>) -> u32
+/// The number of a state that has a name among these. Where each name is the number of its place, it is its value.
+fn number(names: &Names<'_>, numbers: bool, state: Token<'_>) -> u32
     requires named { In (name_of (seen state)) (names_seen names.now) }
     requires few { length (names_seen names.now) ≤ 1000000 }
+    requires numbers { numbers ≡ true → AreNumbers 0 (names_seen names.now) }
     ensures value { result ≡ number_of (names_seen names.now) (name_of (seen state.entry)) }
     ensures below { result < length (names_seen names.now) }
 {
-    match names.get_index_of(name_of(state)) {
+    let name = name_of(state);
+    if numbers {
+        if is_number(name) {
+            return value_of(name) as u32;
+        }
+    }
+    match names.get_index_of(name) {
         Some(number) => number as u32,
         None => unreachable!(),
     }
@@ -271,11 +278,13 @@ pub(crate) fn add_line<L: LabelSet, S: Semiring>(
     labels: &L,
     tapes: &mut Tapes,
     names: &Names<'_>,
+    numbers: bool,
     line: &Line<'_, '_>,
 ) -> Result<(), MakeFault<S::Value>>
     requires sets { builder.old.sets ≡ L.sets labels.now }
     requires states { builder.old.automaton.states ≡ length (names_seen names.now) }
     requires named { (a : List ℕ) → In a (line_names (line_seen line.now)) → In a (names_seen names.now) }
+    requires numbers { numbers ≡ true → AreNumbers 0 (names_seen names.now) }
     requires labels { has_labels (line_seen line.now) ≡ true }
     requires over { IsLineOver (L.sets labels.now) (line_seen line.now) }
     ensures answer { IsAdded S.set S.spelled S.numbers_fit (line_weights (line_seen line.now)) builder.old
@@ -287,12 +296,16 @@ pub(crate) fn add_line<L: LabelSet, S: Semiring>(
         Line::Blank => return Ok(()),
         Line::State(_) => return Ok(()),
         Line::Initial(state, weight) => {
-            return add_initial(builder, number(names, *state), weight);
+            return add_initial(builder, number(names, numbers, *state), weight);
         }
-        Line::Final(state, weight) => return add_final(builder, number(names, *state), weight),
+        Line::Final(state, weight) => return add_final(
+            builder,
+            number(names, numbers, *state),
+            weight,
+        ),
         Line::Moves(from, to, entries) => {
-            let from = number(names, *from);
-            let to = number(names, *to);
+            let from = number(names, numbers, *from);
+            let to = number(names, numbers, *to);
             return add_entries(alloc, builder, labels, tapes, from, entries, to);
         }
     }

@@ -1,4 +1,4 @@
-ghost use Rattle.std.specs.Prelude.{◌≡◌, [], ◌∷◌, map, true, IfOk, MatchBool};
+ghost use Rattle.std.specs.Prelude.{◌≡◌, [], ◌∷◌, map, true, IfOk, IsTrue, MatchBool};
 ghost use Rattle.std.specs.Option.{option_map};
 ghost use Rattle.vc_daut.specs.Grammar.{are_parts, is_label};
 ghost use Rattle.vc_label.specs.Borrowed.{word_of};
@@ -66,6 +66,19 @@ fn write_tape(token: Token<'_>, into: &mut Vec<u8>) -> Result<bool, AllocError>
     Ok(are_letters(into))
 }
 
+/// Whether the part is one letter that stands by itself.
+fn is_letter(token: Token<'_>) -> bool
+    ensures { result ≡ true → (tape_of (seen token.entry) ≡ token.entry.text.now) × IsTrue (are_letters token.entry.text.now) }
+{
+    match token.kind {
+        TokenKind::Run => match token.text {
+            [letter] => 0x21 <= *letter && *letter <= 0x7e,
+            _ => false,
+        },
+        _ => false,
+    }
+}
+
 fn are_letters(text: &[u8]) -> bool
     ensures { result ≡ are_letters text.now }
 {
@@ -102,6 +115,9 @@ fn label_of_one<L: LabelSet>(
     ensures { IfOk result (λ o. IsLabelAnswer (L.sets labels.now) (tape_of (seen a.entry) ∷ []) (option_map L.parts o)) }
 {
     words_are_over_sets();
+    if is_letter(a) {
+        return label_of(alloc, labels, Word::one(a.text));
+    }
     if !write_tape(a, &mut tapes.first)? {
         return Ok(None);
     }

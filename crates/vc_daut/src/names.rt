@@ -1,7 +1,7 @@
 ghost use Rattle.std.specs.Prelude.{◌≡◌, ◌<◌, true, All, IfOk, OnOk, length, map};
 ghost use Rattle.vc_model.specs.Lists.{NoRepeat};
 ghost use Rattle.std.specs.List.{list_all};
-ghost use Rattle.vc_daut.specs.Names.{is_digit, has_no_zero_in_front, is_number, value_of, line_names, with_name, with_names, AreInOrder};
+ghost use Rattle.vc_daut.specs.Names.{is_digit, has_no_zero_in_front, is_number, value_of, line_names, with_name, with_names, AreInOrder, AreNumbers};
 ghost use Rattle.vc_daut.specs.Keys.{IsKeyOf, IsKeyed};
 ghost use Rattle.vc_daut.specs.Views.{line_seen, names_seen};
 
@@ -36,13 +36,13 @@ fn has_no_zero_in_front(name: &[u8]) -> bool
     }
 }
 
-fn is_number(name: &[u8]) -> bool
+pub(crate) fn is_number(name: &[u8]) -> bool
     ensures { result ≡ is_number name.now }
 {
     1 <= name.len() && name.len() <= 18 && are_digits(name) && has_no_zero_in_front(name)
 }
 
-fn value_of(name: &[u8]) -> u64
+pub(crate) fn value_of(name: &[u8]) -> u64
     requires { is_number name.now ≡ true }
     ensures value { result ≡ value_of name.now }
     ensures below { result < 1000000000000000000 }
@@ -116,4 +116,23 @@ pub(crate) fn in_order<'t>(alloc: Global, found: &Names<'t>) -> Result<Names<'t>
         add_name(&mut names, entry.2)?;
     }
     Ok(names)
+}
+
+/// Whether each name is the number of its place, as in texts that are canonical.
+pub(crate) fn are_numbers(names: &Names<'_>) -> bool
+    ensures { result ≡ true → AreNumbers 0 (names_seen names.now) }
+{
+    let mut place = 0;
+    let mut rest = names.as_slice();
+    while let [name, after @ ..] = rest {
+        if !is_number(name) {
+            return false;
+        }
+        if value_of(name) != place {
+            return false;
+        }
+        place += 1;
+        rest = after;
+    }
+    true
 }

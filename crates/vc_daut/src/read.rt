@@ -1,4 +1,4 @@
-ghost use Rattle.std.specs.Prelude.{◌≡◌, ◌+◌, ◌<◌, ◌≤◌, ◌^◌, ℕ, List, length, IfErr, IfOk, OnOk, Some, None, Err};
+ghost use Rattle.std.specs.Prelude.{◌≡◌, true, ◌+◌, ◌<◌, ◌≤◌, ◌^◌, ℕ, List, length, IfErr, IfOk, OnOk, Some, None, Err};
 ghost use Rattle.vc_daut.specs.declared.fault.DautFault.TheVariants.{Syntax};
 ghost use Rattle.std.specs.List.{flat_map};
 ghost use Rattle.vc_daut.specs.Building.{IsAdded, KeepsShape, line_weights};
@@ -6,7 +6,7 @@ ghost use Rattle.vc_daut.specs.Answers.{IsBuiltBy, IsReadBehind};
 ghost use Rattle.vc_daut.specs.Heads.{HeadLine, head_line};
 ghost use Rattle.vc_daut.specs.Lines.{lines_of, more_lines};
 ghost use Rattle.vc_daut.specs.Meaning.{given_by, number_of};
-ghost use Rattle.vc_daut.specs.Names.{line_names};
+ghost use Rattle.vc_daut.specs.Names.{AreNumbers, line_names};
 ghost use Rattle.vc_daut.specs.Passes.{AreAdded, IsWant, fault_at, with_states};
 ghost use Rattle.vc_daut.specs.Spelling.{AreOver, IsLineOver, line_in, lines_in};
 ghost use Rattle.vc_daut.specs.Views.{names_seen};
@@ -19,7 +19,7 @@ use crate::head::{Head, head_of};
 use crate::label::Tapes;
 use crate::line::line_of;
 use crate::lines::cut_line;
-use crate::names::{Names, in_order};
+use crate::names::{Names, are_numbers, in_order};
 use crate::tokens::cut_tokens;
 use indexmap::IndexSet;
 use std::alloc::Global;
@@ -48,11 +48,13 @@ fn add_text<'t, L: LabelSet, S: Semiring>(
     tapes: &mut Tapes,
     tokens: &mut Vec<Token<'t>>,
     names: &Names<'_>,
+    numbers: bool,
     text: &'t [u8],
 ) -> Result<(), MakeFault<S::Value>>
     requires sets { builder.old.sets ≡ L.sets labels.now }
     requires states { builder.old.automaton.states ≡ length (names_seen names.now) }
     requires named { (a : List ℕ) → In a (line_names (line_in S.spelled text.now)) → In a (names_seen names.now) }
+    requires numbers { numbers ≡ true → AreNumbers 0 (names_seen names.now) }
     requires over { IsLineOver (L.sets labels.now) (line_in S.spelled text.now) }
     ensures answer { IsAdded S.set S.spelled S.numbers_fit (line_weights (line_in S.spelled text.now)) builder.old
         (given_by S.set S.spelled (L.sets labels.now) (number_of (names_seen names.now)) (line_in S.spelled text.now)) builder.new result }
@@ -66,7 +68,7 @@ fn add_text<'t, L: LabelSet, S: Semiring>(
     let Some(line) = line_of::<S>(tokens) else {
         return Ok(());
     };
-    add_line(alloc, builder, labels, tapes, names, &line)
+    add_line(alloc, builder, labels, tapes, names, numbers, &line)
 }
 
 /// Adds what the lines of a text give, of which the first has this number.
@@ -75,6 +77,7 @@ fn add_lines<L: LabelSet, S: Semiring>(
     builder: &mut Builder<L, S>,
     labels: &L,
     names: &Names<'_>,
+    numbers: bool,
     text: &[u8],
     first: u64,
 ) -> Result<(), DautFault<S::Value>>
@@ -82,6 +85,7 @@ fn add_lines<L: LabelSet, S: Semiring>(
     requires sets { builder.old.sets ≡ L.sets labels.now }
     requires states { builder.old.automaton.states ≡ length (names_seen names.now) }
     requires named { (a : List ℕ) → In a (flat_map line_names (lines_in S.spelled (more_lines text.now))) → In a (names_seen names.now) }
+    requires numbers { numbers ≡ true → AreNumbers 0 (names_seen names.now) }
     requires over { AreOver (L.sets labels.now) (lines_in S.spelled (more_lines text.now)) }
     ensures kept { OnOk result (KeepsShape builder.old builder.new) }
     ensures answer { AreAdded S.set S.spelled S.numbers_fit (given_by S.set S.spelled (L.sets labels.now) (number_of (names_seen names.now)))
@@ -93,7 +97,16 @@ fn add_lines<L: LabelSet, S: Semiring>(
     let mut rest = text;
     while !rest.is_empty() {
         let (line, after) = cut_line(rest);
-        if let Err(fault) = add_text(alloc, builder, labels, &mut tapes, &mut tokens, names, line) {
+        if let Err(fault) = add_text(
+            alloc,
+            builder,
+            labels,
+            &mut tapes,
+            &mut tokens,
+            names,
+            numbers,
+            line,
+        ) {
             return Err(fault_at(number, fault));
         }
         rest = after;
@@ -135,11 +148,12 @@ fn build<L: LabelSet, S: Semiring>(
     ensures sets { IfOk result (λ a. a.sets ≡ L.sets labels) }
     ensures states { IfOk result (λ a. a.automaton.states ≤ 1000000) }
 {
+    let numbers = are_numbers(names);
     let mut builder = Builder::new(alloc, labels, MOST_STATES);
     if let Err(fault) = add_states(&mut builder, names.len()) {
         return Err(fault_at(first, fault));
     }
-    if let Err(fault) = add_lines(alloc, &mut builder, &labels, names, text, first) {
+    if let Err(fault) = add_lines(alloc, &mut builder, &labels, names, numbers, text, first) {
         return Err(fault);
     }
     drafts_are_valid(&builder);

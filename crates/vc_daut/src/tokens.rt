@@ -6,6 +6,7 @@ use std::alloc::AllocError;
 use vc_lex::{Lexer, Mode, Token, tokens_follow_the_grammar};
 
 /// Cuts a line into its tokens, in place of those that are there. False where at some byte no token begins.
+#[inline(never)]
 pub(crate) fn cut_tokens<'t>(
     line: &'t [u8],
     tokens: &mut Vec<Token<'t>>,

@@ -46,6 +46,7 @@ impl<'s> Lexer<'s> {
     ///
     /// It is None at the end of the source, at a comment in a line (`#` or `//` where a token would begin), and in each
     /// call after a bad byte.
+    #[inline(always)]
     pub fn next(&mut self) -> Option<Result<Token<'s>, BadByte>>
         ensures step { self.old.failed ≡ false → IsStepBy (next_scan self.old) self.old result self.new }
         ensures stopped { self.old.failed ≡ true → IsNone result × (self.new ≡ self.old) }
