@@ -3,7 +3,8 @@ use Rattle.std.proofs.Common.{◌≡◌, ◌≤◌, ◌<◌, ◌∙◌, ℕ, len
 use Rattle.vc_context.specs.Sets.{tapes_of}
 use Rattle.vc_context.specs.declared.context.AnyContext.{AnyContext}
 use Rattle.vc_context.specs.declared.context.Weights.{Weights}
-use Rattle.vc_daut.specs.Contexts.{IsContextOf, context_text}
+use Rattle.vc_daut.specs.ContextLines.{IsContextLine}
+use Rattle.vc_daut.specs.Contexts.{IsContextOf}
 use Rattle.vc_daut.specs.Heads.{HeadLine, head_line}
 use Rattle.vc_daut.specs.Lines.{lines_of}
 use Rattle.vc_daut.specs.declared.fault.HeadFault.{HeadFault}
@@ -32,7 +33,7 @@ not_found bytes last None e n k = (k, λ f h. none_some (head_line 1 (lines_of b
   where
     none_some : (o : Option HeadLine) (x : HeadLine) → o ≡ None → o ≡ Some x → ⊥
     none_some o x h i = cc (sym h ∙ i)
-not_found bytes last (Some h) e n k = (k.0, λ f c. k.1 c.text f.sets f.weights (ap (λ (x : HeadLine). context_text x.line) (same (head_line 1 (lines_of bytes)) h f.head e c.is_head) ∙ c.is_context) c.spells)
+not_found bytes last (Some h) e n k = (k.0, λ f c. k.1 c.text f.sets f.weights (subst (λ (x : HeadLine). IsContextLine x.line c.text) (sym (same (head_line 1 (lines_of bytes)) h f.head e c.is_head)) c.is_context) c.spells)
   where
     same : (o : Option HeadLine) (x y : HeadLine) → o ≡ Some x → o ≡ Some y → x ≡ y
     same o x y h i = cc (sym h ∙ i)

@@ -13,6 +13,7 @@ use Rattle.vc_context.specs.Spelling.{SpellsContext}
 use Rattle.vc_context.specs.declared.context.Weights.{Weights}
 use Rattle.vc_context.specs.declared.context.Weights.TheVariants.{B, F2, Z, Q, Nmin}
 use Rattle.vc_daut.specs.Answers.{IsReadBehind}
+use Rattle.vc_daut.specs.ContextLines.{IsContextLine}
 use Rattle.vc_daut.specs.Contexts.{context_text}
 use Rattle.vc_daut.specs.Heads.{HeadLine, head_line}
 use Rattle.vc_daut.specs.Lines.{lines_of}
@@ -59,13 +60,14 @@ or_memory P a b p (inl m) f = inl (inr (subst IsFree (sym m) tt))
 or_memory P a b (inr p) (inr q) f = inr (f p q)
 
 module _
+    (read : (line text : Bytes) → IsContextLine line text → context_text line ≡ Some text)
     (contexts : (text : Bytes) (sets others : List TapeSet) (weights other : Weights) → SpellsContext text sets weights → SpellsContext text others other → (sets ≡ others) × (weights ≡ other))
     (truths : OneAutomaton Bool) (wholes : OneAutomaton ℤ) (fractions : OneAutomaton Fraction) (costs : OneAutomaton NminValue)
     (truths_apart : AreApart Bool) (wholes_apart : AreApart ℤ) (fractions_apart : AreApart Fraction) (costs_apart : AreApart NminValue) where
   one_head : (bytes : Bytes) (f g : Headed) → HasContext bytes f → HasContext bytes g → f ≡ g
   one_head bytes f g p q =
       let e = some_same (head_line 1 (lines_of bytes)) f.head g.head p.is_head q.is_head in
-      let t = some_same (context_text g.head.line) p.text q.text (ap (λ (h : HeadLine). context_text h.line) (sym e) ∙ p.is_context) q.is_context in
+      let t = some_same (context_text g.head.line) p.text q.text (read g.head.line p.text (subst (λ (h : HeadLine). IsContextLine h.line p.text) e p.is_context)) (read g.head.line q.text q.is_context) in
       let k = contexts q.text f.sets g.sets f.weights g.weights (subst (λ x. SpellsContext x f.sets f.weights) t p.spells) q.spells in
       ap (λ h. headed h f.sets f.weights) e ∙ ap (λ s. headed g.head s f.weights) k.0 ∙ ap (λ w. headed g.head g.sets w) k.1
 

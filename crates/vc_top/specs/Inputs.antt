@@ -3,7 +3,7 @@ use Rattle.std.specs.Prelude.{◌≡◌, ◌⊎◌, ℕ, ◌+◌, List, length, 
 use Rattle.vc_context.specs.Spelling.{SpellsContext}
 use Rattle.vc_context.specs.declared.context.Weights.{Weights}
 use Rattle.vc_daut.specs.Answers.{IsReadBehind}
-use Rattle.vc_daut.specs.Contexts.{context_text}
+use Rattle.vc_daut.specs.ContextLines.{IsContextLine}
 use Rattle.vc_daut.specs.Heads.{HeadLine, head_line}
 use Rattle.vc_daut.specs.Lines.{lines_of}
 use Rattle.vc_daut.specs.Spelling.{Spells, bad_line, lines_in, IsFirstLabel}
@@ -27,7 +27,7 @@ pub record Headed : Type 0 where
 pub record HasContext (bytes : Bytes) (f : Headed) : Type 0 where
   pub text : Bytes
   pub is_head : head_line 1 (lines_of bytes) ≡ Some f.head
-  pub is_context : context_text f.head.line ≡ Some text
+  pub is_context : IsContextLine f.head.line text
   pub spells : SpellsContext text f.sets f.weights
 
 -- the number of the first line that is not blank, and of the last line where all are blank

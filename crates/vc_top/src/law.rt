@@ -7,7 +7,9 @@ ghost use Rattle.vc_top.specs.Seen.{seen};
 
 use vc_basic::NminValue;
 use vc_context::contexts_have_texts;
-use vc_daut::{readings_exclude_each_other, texts_spell_one_automaton};
+use vc_daut::{
+    context_lines_have_one_text, readings_exclude_each_other, texts_spell_one_automaton,
+};
 use vc_files::names_have_one_file;
 use vc_rat::Fraction;
 
@@ -21,6 +23,7 @@ pub fn answers_are_determined()
 {
     names_have_one_file();
     contexts_have_texts();
+    context_lines_have_one_text();
     texts_spell_one_automaton::<bool>();
     texts_spell_one_automaton::<i128>();
     texts_spell_one_automaton::<Fraction>();
