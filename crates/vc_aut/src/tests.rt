@@ -1,4 +1,4 @@
-ghost use Rattle.std.specs.Prelude.{true, false, refl, [], ◌∷◌, ◌||◌, ◌&&◌, ◌==◌, Some, length, if◌then◌else◌};
+ghost use Rattle.std.specs.Prelude.{true, false, refl, [], ◌∷◌, ◌||◌, ◌&&◌, ◌==◌, None, Some, length, if◌then◌else◌};
 ghost use Rattle.std.proofs.Common.{arith};
 ghost use Rattle.std.proofs.lemmas.List.Elements.{All-cons, All-nil};
 ghost use Rattle.vc_ring.specs.Texts.{IsWeightByte};
@@ -23,11 +23,11 @@ impl Semiring for Truth {
 
     ghost set = { record { zero = false; one = true; plus = λ a b. a || b; times = λ a b. a && b; has_star = λ a. true; star = λ a. true; in_range = λ a. true; fits_plus = λ a b. true; fits_times = λ a b. true; fits_star = λ a. true } };
 
-    ghost spelled = { λ text. Some (length text == 1) };
+    ghost spelled = { λ text. if length text == 0 then None else Some (length text == 1) };
 
     ghost numbers_fit = { λ text. true };
 
-    ghost canonical = { λ a. if a then 0x31 ∷ [] else [] };
+    ghost canonical = { λ a. if a then 0x31 ∷ [] else 0x30 ∷ 0x30 ∷ [] };
 
     ghost laws = { record { plus_assoc = or_assoc; plus_comm = or_comm; plus_zero = or-false; times_assoc = and_assoc; times_comm = and_comm; times_one = and-true; times_zero = and-false; times_plus = and-or_distrib_left; one_is_not_zero = λ h. Prim.cc; star_zero = refl; star_is = λ a h. refl } };
 
@@ -37,7 +37,7 @@ impl Semiring for Truth {
 
     ghost absorbs = { ((λ h a. refl), (λ h. refl)) };
 
-    ghost texts = { record { read_in = λ text a h k. refl; written = elim [ true ↦ λ h. refl | false ↦ λ h. refl ]; written_fits = λ a h. refl; bytes = elim [ true ↦ All-cons IsWeightByte 0x31 [] (record { low = Prim.omega arith; high = Prim.omega arith; not_less = λ e. Prim.omega arith; not_greater = λ e. Prim.omega arith }) (All-nil IsWeightByte) | false ↦ All-nil IsWeightByte ] } };
+    ghost texts = { record { not_empty = refl; read_in = λ text a h k. refl; written = elim [ true ↦ λ h. refl | false ↦ λ h. refl ]; written_fits = λ a h. refl; bytes = elim [ true ↦ All-cons IsWeightByte 0x31 [] (record { low = Prim.omega arith; high = Prim.omega arith; not_less = λ e. Prim.omega arith; not_greater = λ e. Prim.omega arith }) (All-nil IsWeightByte) | false ↦ All-cons IsWeightByte 0x30 (0x30 ∷ []) (record { low = Prim.omega arith; high = Prim.omega arith; not_less = λ e. Prim.omega arith; not_greater = λ e. Prim.omega arith }) (All-cons IsWeightByte 0x30 [] (record { low = Prim.omega arith; high = Prim.omega arith; not_less = λ e. Prim.omega arith; not_greater = λ e. Prim.omega arith }) (All-nil IsWeightByte)) ] } };
 
     fn zero() -> bool {
         false
@@ -60,7 +60,10 @@ impl Semiring for Truth {
     }
 
     fn read(text: &[u8]) -> Result<bool, NumberFault> {
-        Ok(text.len() == 1)
+        match text.len() {
+            0 => Err(NumberFault::Bad),
+            length => Ok(length == 1),
+        }
     }
 
     fn write(_value: bool, _into: &mut String) -> Result<(), AllocError> {
