@@ -10,7 +10,7 @@ use Rattle.std.proofs.lemmas.Int.{ints, quot-rem, unsigned_abs-mul}
 use native.Mathlib.Nat.{dvd_refl, dvd_trans, mod-eq-zero_of_dvd, mul-dvd-mul_left, eq-zero_of_zero-dvd, le_of_dvd, div-le_self}
 use Rattle.vc_model.specs.WeightSet.{WeightSet, SemiringLaws, SplitLaws, IsZeroRow, InRange}
 use Rattle.vc_ring.specs.Splits.{SplitRanges}
-use Rattle.vc_model.proofs.Rearranged.{semiring}
+use Rattle.vc_model.specs.Rearranged.{semiring}
 use Rattle.vc_num.specs.Divisors.{gcd_of}
 use Rattle.vc_num.specs.Range.{in_range}
 use Rattle.vc_num.specs.Divisibility.{gcd_of-is, gcd_of-times, gcd_of-zero_left}

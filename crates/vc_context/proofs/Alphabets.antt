@@ -18,7 +18,7 @@ use Rattle.vc_lex.specs.Letters.{is_plain, is_escaped, letter_in}
 use Rattle.vc_lex.specs.Scans.{is_blank}
 use Rattle.vc_lex.specs.declared.letters.LetterAt.{LetterAt}
 use Rattle.vc_model.specs.Lists.{In, up_from}
-use Rattle.vc_model.proofs.Members.{In-filter, In-filter_from, up_from-In}
+use Rattle.vc_model.specs.Members.{In-filter, In-filter_from, up_from-In}
 
 -- ---- bytes that stop items
 

@@ -17,7 +17,7 @@ use Rattle.vc_model.specs.Gathered.{IsGathered}
 use Rattle.vc_model.specs.Lists.{below, up_from}
 use Rattle.vc_model.specs.Sums.{sum_over}
 use Rattle.vc_model.specs.WeightSet.{WeightSet, SemiringLaws}
-use Rattle.vc_model.proofs.SumLaws.{sum-append}
+use Rattle.vc_model.specs.SumLaws.{sum-append}
 use Rattle.vc_daut.specs.Answers.{IsBuilt}
 use Rattle.vc_daut.specs.Building.{with_given, with_all}
 use Rattle.vc_daut.specs.Grammar.{Line, blank, line_at}

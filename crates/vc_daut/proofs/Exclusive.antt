@@ -7,7 +7,7 @@ use Rattle.vc_aut.specs.Labelled.{Labelled}
 use Rattle.vc_label.specs.declared.tape_set.TapeSet.{TapeSet}
 use Rattle.vc_model.specs.Lists.{In, NoRepeat}
 use Rattle.vc_model.specs.WeightSet.{WeightSet}
-use Rattle.vc_model.proofs.Members.{place_of, In-middle_cases, In-append_left, In-append_right}
+use Rattle.vc_model.specs.Members.{place_of, In-middle_cases, In-append_left, In-append_right}
 use Rattle.vc_ring.specs.declared.faults.Limit.{Limit as Bound}
 use Rattle.vc_ring.specs.declared.faults.MakeFault.{MakeFault}
 use Rattle.vc_ring.specs.declared.faults.MakeFault.TheVariants.{Overflow as Unfit, Limit as PastLimit}

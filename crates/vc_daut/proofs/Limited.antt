@@ -15,7 +15,7 @@ use Rattle.vc_model.specs.Automata.{Transition, triple}
 use Rattle.vc_model.specs.Lists.{In}
 use Rattle.vc_model.specs.WeightSet.{WeightSet, SemiringLaws}
 use Rattle.vc_model.specs.Words.{Word}
-use Rattle.vc_model.proofs.Members.{In-append_left, In-map, In-map_from, In-flat_map, In-flat_map_from, In-middle}
+use Rattle.vc_model.specs.Members.{In-append_left, In-map, In-map_from, In-flat_map, In-flat_map_from, In-middle}
 use Rattle.vc_ring.specs.declared.faults.Limit.{Limit as Bound}
 use Rattle.vc_ring.specs.declared.faults.MakeFault.{MakeFault}
 use Rattle.vc_ring.specs.declared.faults.MakeFault.TheVariants.{Overflow as Unfit, Limit as PastLimit}

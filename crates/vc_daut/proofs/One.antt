@@ -15,7 +15,7 @@ use Rattle.vc_model.specs.Gathered.{IsAscending}
 use Rattle.vc_model.specs.Lists.{In}
 use Rattle.vc_model.specs.WeightSet.{WeightSet, SemiringLaws}
 use Rattle.vc_model.specs.Words.{Word}
-use Rattle.vc_model.proofs.GatheredLaws.{gathered_alike}
+use Rattle.vc_model.specs.GatheredLaws.{gathered_alike}
 use Rattle.vc_daut.specs.ContextLines.{IsContextLine}
 use Rattle.vc_daut.specs.Contexts.{context_text}
 use Rattle.vc_daut.specs.Heads.{HeadLine, head_line}

@@ -7,7 +7,7 @@ use Rattle.std.proofs.lemmas.Bool.{eqb-true, eq-eqb}
 use Rattle.vc_model.specs.Automata.{Automaton, Transition, initial_weight, final_weight}
 use Rattle.vc_model.specs.Lists.{In, below}
 use Rattle.vc_model.specs.WeightSet.{WeightSet}
-use Rattle.vc_model.proofs.Members.{In-append_left, In-append_right, In-append_cases, In-filter, In-flat_map, In-flat_map_from, In-up_from, up_from-In}
+use Rattle.vc_model.specs.Members.{In-append_left, In-append_right, In-append_cases, In-filter, In-flat_map, In-flat_map_from, In-up_from, up_from-In}
 use Rattle.vc_daut.specs.Canonical.{TextLine, begins_line, moves_line, ends_line, state_line, line_to, to_state, lines_by_target, initial_line, final_line, transition_lines, is_in_lines, lone_line, state_lines, automaton_lines}
 use Rattle.vc_daut.proofs.Reread.{text_names}
 

@@ -9,7 +9,7 @@ use Rattle.vc_context.specs.Canonical.{letter_text}
 use Rattle.vc_label.specs.Letters.{is_letter, are_letters}
 use Rattle.vc_model.specs.Lists.{up_from, below}
 use Rattle.vc_model.specs.Words.{Tape}
-use Rattle.vc_model.proofs.Members.{up_from-more}
+use Rattle.vc_model.specs.Members.{up_from-more}
 use Rattle.vc_daut.specs.Canonical.{listed, part_text}
 
 both_true : (a b : Bool) → a && b ≡ true → (a ≡ true) × (b ≡ true)

@@ -18,8 +18,8 @@ use Rattle.vc_model.specs.Lists.{In, up_from}
 use Rattle.vc_model.specs.Sums.{sum_over}
 use Rattle.vc_model.specs.WeightSet.{WeightSet, SemiringLaws}
 use Rattle.vc_model.specs.Words.{Word}
-use Rattle.vc_model.proofs.GatheredLaws.{member_weight}
-use Rattle.vc_model.proofs.Members.{In-flat_map, In-flat_map_from, In-middle}
+use Rattle.vc_model.specs.GatheredLaws.{member_weight}
+use Rattle.vc_model.specs.Members.{In-flat_map, In-flat_map_from, In-middle}
 use Rattle.vc_ring.specs.declared.faults.MakeFault.{MakeFault}
 use Rattle.vc_ring.specs.declared.faults.MakeFault.TheVariants.{Overflow as Unfit, Limit as PastLimit}
 use Rattle.vc_ring.specs.declared.faults.Measure.TheVariants.{Transitions}

@@ -11,9 +11,9 @@ use Rattle.vc_model.specs.Gathered.{same_triple}
 use Rattle.vc_model.specs.Lists.{In, below, IsEqualityTest}
 use Rattle.vc_model.specs.Sums.{sum_over}
 use Rattle.vc_model.specs.WeightSet.{WeightSet, SemiringLaws}
-use Rattle.vc_model.proofs.Members.{In-up_from, In-filter_from}
-use Rattle.vc_model.proofs.Rearranged.{zero_plus}
-use Rattle.vc_model.proofs.SumLaws.{sum-map, sum-flat_map, sum_same, sum_zero}
+use Rattle.vc_model.specs.Members.{In-up_from, In-filter_from}
+use Rattle.vc_model.specs.Rearranged.{zero_plus}
+use Rattle.vc_model.specs.SumLaws.{sum-map, sum-flat_map, sum_same, sum_zero}
 use Rattle.vc_daut.specs.Canonical.{moves_line, line_to, to_state, initial_line, final_line, transition_lines, automaton_lines}
 use Rattle.vc_daut.specs.Meaning.{Given, moves_by, beginning, ending, moving, number_of, IsSumOf}
 use Rattle.vc_daut.proofs.Decimals.{number_of-decimal}

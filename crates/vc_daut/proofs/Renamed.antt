@@ -10,7 +10,7 @@ use Rattle.vc_aut.specs.Validity.{IsLabelled, IsMove}
 use Rattle.vc_model.specs.Automata.{Transition}
 use Rattle.vc_model.specs.Lists.{In, below}
 use Rattle.vc_model.specs.WeightSet.{WeightSet}
-use Rattle.vc_model.proofs.Members.{In-filter_from, In-flat_map_from, In-map, In-map_from, In-up_from, up_from-In}
+use Rattle.vc_model.specs.Members.{In-filter_from, In-flat_map_from, In-map, In-map_from, In-up_from, up_from-In}
 use Rattle.vc_daut.specs.Canonical.{TextLine, to_state, automaton_lines}
 use Rattle.vc_daut.specs.Names.{AreInOrder}
 use Rattle.vc_daut.proofs.Decimals.{decimals_in_order, decimals_once}

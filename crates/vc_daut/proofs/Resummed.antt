@@ -8,11 +8,11 @@ use Rattle.vc_model.specs.Automata.{Automaton, Transition, initial_weight, final
 use Rattle.vc_model.specs.Lists.{In, below, up_from, IsEqualityTest}
 use Rattle.vc_model.specs.Sums.{sum_over}
 use Rattle.vc_model.specs.WeightSet.{WeightSet, SemiringLaws}
-use Rattle.vc_model.proofs.Choices.{cond_zero}
-use Rattle.vc_model.proofs.Keys.{sum_pick, sum_by_key}
-use Rattle.vc_model.proofs.Members.{In-up_from, up_from-In, NoRepeat-up_from}
-use Rattle.vc_model.proofs.Rearranged.{zero_plus}
-use Rattle.vc_model.proofs.SumLaws.{sum-append, sum-map, sum-flat_map, sum-filter, sum_same, sum_zero}
+use Rattle.vc_model.specs.Choices.{cond_zero}
+use Rattle.vc_model.specs.Keys.{sum_pick, sum_by_key}
+use Rattle.vc_model.specs.Members.{In-up_from, up_from-In, NoRepeat-up_from}
+use Rattle.vc_model.specs.Rearranged.{zero_plus}
+use Rattle.vc_model.specs.SumLaws.{sum-append, sum-map, sum-flat_map, sum-filter, sum_same, sum_zero}
 use Rattle.vc_daut.specs.Canonical.{TextLine, begins_line, moves_line, ends_line, to_state, initial_line, final_line, transition_lines, lone_line, state_lines, automaton_lines}
 use Rattle.vc_daut.specs.Meaning.{Given, moves_by, beginning, ending}
 use Rattle.vc_daut.proofs.Placed.{from_state, initial_only, final_only, lone_only, moves_only}

@@ -10,7 +10,7 @@ use Rattle.std.proofs.lemmas.Bool.{false≢true}
 use Rattle.std.proofs.lemmas.Cmp.{nat_list_cmp_total, ranked}
 use Rattle.vc_model.specs.Gathered.{IsAscending}
 use Rattle.vc_model.specs.Lists.{In, NoRepeat}
-use Rattle.vc_model.proofs.GatheredLaws.{ascending_same}
+use Rattle.vc_model.specs.GatheredLaws.{ascending_same}
 use Rattle.vc_daut.specs.Labels.{unescaped}
 use Rattle.vc_daut.specs.Names.{is_number, value_of, name_order, order_by, AreOrdered, AreInOrder}
 use Rattle.vc_daut.proofs.Escaped.{IsWritten, same_bytes, same_number}

@@ -6,7 +6,7 @@ use Rattle.std.specs.Option.{option_and_then}
 use Rattle.vc_lex.specs.Grammar.{IsTokenText}
 use Rattle.vc_lex.specs.declared.token.Mode.TheVariants.{Line as LineMode}
 use Rattle.vc_model.specs.Lists.{In}
-use Rattle.vc_model.proofs.Members.{In-append_cases}
+use Rattle.vc_model.specs.Members.{In-append_cases}
 use Rattle.vc_daut.specs.Grammar.{Line, blank, initial_at, final_at, moves, state, is_state, is_end, is_dollar_kind, is_arrow_kind, are_entries, arrow_line, line_of, line_at, name_of}
 use Rattle.vc_daut.specs.Marks.{Mark, IsNext, HasMarks, next_at, marks_of}
 use Rattle.vc_daut.specs.Names.{AreNames, line_names}

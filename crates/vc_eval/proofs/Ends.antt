@@ -7,12 +7,12 @@ use Rattle.vc_model.specs.Letters.{HasLetters}
 use Rattle.vc_model.specs.Lists.{In, below}
 use Rattle.vc_model.specs.Sums.{sum_over, sum_onto}
 use Rattle.vc_model.specs.Words.{Tape}
-use Rattle.vc_model.proofs.LetterRows.{HasLetters-IsProper}
-use Rattle.vc_model.proofs.Members.{In-up_from, In-append_left, In-append_right, In-flat_map}
-use Rattle.vc_model.proofs.OutcomeLaws.{AllFit-append, outcome-is}
-use Rattle.vc_model.proofs.ProperRows.{coefficient-row}
-use Rattle.vc_model.proofs.Rearranged.{zero_plus}
-use Rattle.vc_model.proofs.SumLaws.{sum_onto-is, sum-map}
+use Rattle.vc_model.specs.LetterRows.{HasLetters-IsProper}
+use Rattle.vc_model.specs.Members.{In-up_from, In-append_left, In-append_right, In-flat_map}
+use Rattle.vc_model.specs.OutcomeLaws.{AllFit-append, outcome-is}
+use Rattle.vc_model.specs.ProperRows.{coefficient-row}
+use Rattle.vc_model.specs.Rearranged.{zero_plus}
+use Rattle.vc_model.specs.SumLaws.{sum_onto-is, sum-map}
 use Rattle.vc_ring.specs.Steps.{fits, AllFit, outcome, IsOutcome}
 use Rattle.vc_ring.specs.declared.faults.Overflow.{Overflow}
 use Rattle.vc_eval.specs.Forward.{products, products_steps, by_source, row_steps, end_steps, prefixes, forward_steps}

@@ -10,14 +10,14 @@ use Rattle.vc_model.specs.Letters.{letter_of, HasLetters}
 use Rattle.vc_model.specs.Lists.{In, below}
 use Rattle.vc_model.specs.Sums.{sum_over, sum_onto}
 use Rattle.vc_model.specs.Words.{Tape, Word, front_before, put_front, cut_end}
-use Rattle.vc_model.proofs.LetterRows.{row_letter}
-use Rattle.vc_model.proofs.LastSteps.{sum_pick_state, eqb_comm}
-use Rattle.vc_model.proofs.Members.{In-up_from, up_from-In, In-filter_from, In-flat_map, In-flat_map_from}
-use Rattle.vc_model.proofs.SumLaws.{sum_onto-is, sum-map, sum-flat_map, sum-filter, sum_same, sum_swap}
-use Rattle.vc_model.proofs.WordEnds.{front_before-append, append-front_before}
+use Rattle.vc_model.specs.LetterRows.{row_letter}
+use Rattle.vc_model.specs.LastSteps.{sum_pick_state, eqb_comm}
+use Rattle.vc_model.specs.Members.{In-up_from, up_from-In, In-filter_from, In-flat_map, In-flat_map_from}
+use Rattle.vc_model.specs.SumLaws.{sum_onto-is, sum-map, sum-flat_map, sum-filter, sum_same, sum_swap}
+use Rattle.vc_model.specs.WordEnds.{front_before-append, append-front_before}
 use Rattle.vc_model.specs.Outcomes as steps
-use Rattle.vc_model.proofs.OutcomeLaws.{AllFit-append}
-use Rattle.vc_model.proofs.Rearranged.{zero_plus}
+use Rattle.vc_model.specs.OutcomeLaws.{AllFit-append}
+use Rattle.vc_model.specs.Rearranged.{zero_plus}
 use Rattle.vc_ring.specs.Steps.{fits, AllFit}
 use Rattle.vc_ring.specs.declared.faults.Overflow.{Overflow}
 use Rattle.vc_eval.specs.Forward.{products, products_steps, by_source, last_factors, row_factors, row_steps}

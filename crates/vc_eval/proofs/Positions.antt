@@ -4,8 +4,8 @@ use Rattle.std.proofs.Math.Seq.{take-append_seam}
 use Rattle.std.proofs.lemmas.List.{take-append-drop}
 use Rattle.vc_model.specs.Lists.{In}
 use Rattle.vc_model.specs.Words.{Tape, Word, is_empty, cuts, join}
-use Rattle.vc_model.proofs.Cuts.{cuts-In, In-cuts}
-use Rattle.vc_model.proofs.Members.{In-filter, In-filter_from, In-map, In-map_from, head_same}
+use Rattle.vc_model.specs.Cuts.{cuts-In, In-cuts}
+use Rattle.vc_model.specs.Members.{In-filter, In-filter_from, In-map, In-map_from, head_same}
 use Rattle.vc_eval.specs.Forward.{prefixes}
 
 taken_not_empty : (j : ℕ) (a : Tape) → j < length a → not (is_empty (take (j + 1) a ∷ [])) ≡ true

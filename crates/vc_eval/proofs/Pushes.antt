@@ -3,7 +3,7 @@ use Rattle.std.proofs.Common.{◌≡◌, ℕ, ◌<◌, ◌+◌, List, ◌∷◌,
 use Rattle.std.proofs.lemmas.List.{drop_more, get_or-map, length-map}
 use Rattle.vc_model.specs.WeightSet.{WeightSet}
 use Rattle.vc_model.specs.Automata.{Transition}
-use Rattle.vc_model.proofs.OutcomeLaws.{outcome-append_ok, outcome-append_err}
+use Rattle.vc_model.specs.OutcomeLaws.{outcome-append_ok, outcome-append_err}
 use Rattle.vc_ring.specs.Steps.{outcome, fits}
 use Rattle.vc_ring.specs.declared.faults.Overflow.{Overflow}
 use Rattle.vc_eval.specs.Moves.{moved, move_steps, moved_once, once_steps}

@@ -8,9 +8,9 @@ use Rattle.vc_model.specs.WeightSet.{WeightSet, SemiringLaws, RangeLaws, InRange
 use Rattle.vc_model.specs.Automata.{Transition, Automaton}
 use Rattle.vc_model.specs.Letters.{letter_of, HasLetters}
 use Rattle.vc_model.specs.Lists.{In, up_from}
-use Rattle.vc_model.proofs.Members.{In-filter_from}
-use Rattle.vc_model.proofs.OutcomeLaws.{outcome-append_ok, outcome-append_err, outcome-fits}
-use Rattle.vc_model.proofs.Rearranged.{zero_times}
+use Rattle.vc_model.specs.Members.{In-filter_from}
+use Rattle.vc_model.specs.OutcomeLaws.{outcome-append_ok, outcome-append_err, outcome-fits}
+use Rattle.vc_model.specs.Rearranged.{zero_times}
 use Rattle.vc_aut.specs.Validity.{IsMove}
 use Rattle.vc_ring.specs.Steps.{outcome, fits, AllFit}
 use Rattle.vc_ring.specs.declared.faults.Overflow.{Overflow}

@@ -9,8 +9,8 @@ use Rattle.vc_model.specs.Automata.{Transition}
 use Rattle.vc_model.specs.Letters.{letter_of}
 use Rattle.vc_model.specs.Lists.{In}
 use Rattle.vc_model.specs.Sums.{sum_onto}
-use Rattle.vc_model.proofs.Members.{In-append_left, In-append_right, In-append_cases}
-use Rattle.vc_model.proofs.OutcomeLaws.{AllFit-append, AllFit-append_from}
+use Rattle.vc_model.specs.Members.{In-append_left, In-append_right, In-append_cases}
+use Rattle.vc_model.specs.OutcomeLaws.{AllFit-append, AllFit-append_from}
 use Rattle.vc_ring.specs.Steps.{fits, AllFit}
 use Rattle.vc_ring.specs.Sums.{sum_steps}
 use Rattle.vc_ring.specs.declared.faults.Overflow.{Overflow}

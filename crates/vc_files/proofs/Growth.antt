@@ -2,7 +2,7 @@
 use Rattle.std.proofs.Common.{◌≡◌, ◌⊎◌, ◌≤◌, List, [], ◌∷◌, ◌++◌, map, length, sym, ap, ◌∙◌, inl, inr, length-append, append_assoc, append-nil, arith}
 use Rattle.std.proofs.lemmas.List.{map-append}
 use Rattle.vc_model.specs.Lists.{In}
-use Rattle.vc_model.proofs.Members.{In-append_cases, In-append_left, In-append_right}
+use Rattle.vc_model.specs.Members.{In-append_cases, In-append_left, In-append_right}
 use Rattle.vc_files.specs.Files.{Bytes, Grows, Added}
 
 -- one more fault

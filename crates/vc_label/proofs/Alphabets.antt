@@ -12,7 +12,7 @@ use Rattle.std.proofs.lemmas.Grind.{common_steps}
 use Rattle.vc_label.specs.Alphabets.{has_letter, letters_of}
 use Rattle.vc_label.specs.Letters.{is_letter}
 use Rattle.vc_label.specs.declared.alphabet.Alphabet.{Alphabet}
-use Rattle.vc_model.proofs.Members.{In-filter, In-filter_from, up_from-In}
+use Rattle.vc_model.specs.Members.{In-filter, In-filter_from, up_from-In}
 use Rattle.vc_model.specs.Lists.{In, up_from}
 
 is_bit : (m : ℕ) → m < 2 → (m ≡ 0) ⊎ (m ≡ 1)

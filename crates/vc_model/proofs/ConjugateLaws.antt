@@ -7,14 +7,14 @@ use Rattle.vc_model.specs.Words.{Tape, Word, is_empty, cut, size}
 use Rattle.vc_model.specs.Automata.{Transition, Automaton, IsAutomaton, IsSound, initial_weight, final_weight, future, future_within, coefficient, coefficient_within, first_step, at_rest}
 use Rattle.vc_model.specs.Letters.{HasLetters, step_sum}
 use Rattle.vc_model.specs.Conjugates.{combined, IsConjugate, letter_entry, IsLetterConjugate}
-use Rattle.vc_model.proofs.Rearranged.{one_times}
-use Rattle.vc_model.proofs.SumLaws.{sum_same, sum_zero, sum-plus, sum-times, sum-times_right, sum_swap}
-use Rattle.vc_model.proofs.Members.{In-up_from, NoRepeat-up_from, up_from-In}
-use Rattle.vc_model.proofs.WordLaws.{join-cut}
-use Rattle.vc_model.proofs.Keys.{sum_pick}
-use Rattle.vc_model.proofs.Choices.{cond-times}
-use Rattle.vc_model.proofs.Rests.{at_rest_same}
-use Rattle.vc_model.proofs.FirstSteps.{future_within-suc, future_within-zero}
+use Rattle.vc_model.specs.Rearranged.{one_times}
+use Rattle.vc_model.specs.SumLaws.{sum_same, sum_zero, sum-plus, sum-times, sum-times_right, sum_swap}
+use Rattle.vc_model.specs.Members.{In-up_from, NoRepeat-up_from, up_from-In}
+use Rattle.vc_model.specs.WordLaws.{join-cut}
+use Rattle.vc_model.specs.Keys.{sum_pick}
+use Rattle.vc_model.specs.Choices.{cond-times}
+use Rattle.vc_model.specs.Rests.{at_rest_same}
+use Rattle.vc_model.specs.FirstSteps.{future_within-suc, future_within-zero}
 use Rattle.vc_model.proofs.Bounds.{future_within-bounds}
 use Rattle.vc_model.proofs.FutureLaws.{coefficient_stable}
 use Rattle.vc_model.proofs.LetterSteps.{future_empty, future_letter, step_sum_same, step_sum-times_right, step_sum-sum}

@@ -9,12 +9,12 @@ use Rattle.vc_model.specs.Words.{Tape, Word, size, is_empty, emptied, join, cut,
 use Rattle.vc_model.specs.Series.{Series, zero_series, one_series, weight_series, product_series, both_series, shuffle_series, star_or_zero, star_series}
 use Rattle.vc_model.specs.Automata.{at_rest}
 use Rattle.vc_model.specs.Items.{Item, met_items, brought, IsGiven, HaveLabels}
-use Rattle.vc_model.proofs.Rearranged.{zero_plus, zero_times, plus_left, times_left}
-use Rattle.vc_model.proofs.SumLaws.{sum-append, sum-map, sum-flat_map, sum_same, sum_zero, sum-times, sum-times_right, sum_swap, sum-filter}
-use Rattle.vc_model.proofs.WordLaws.{join-cut, size-join, same_word-true, same_word_is, is_empty-emptied, size-is_empty, length-empty_word}
-use Rattle.vc_model.proofs.Cuts.{cuts-In}
-use Rattle.vc_model.proofs.Choices.{same_or, cond-times, times-cond, cond-sum}
-use Rattle.vc_model.proofs.Rests.{at_rest_same}
+use Rattle.vc_model.specs.Rearranged.{zero_plus, zero_times, plus_left, times_left}
+use Rattle.vc_model.specs.SumLaws.{sum-append, sum-map, sum-flat_map, sum_same, sum_zero, sum-times, sum-times_right, sum_swap, sum-filter}
+use Rattle.vc_model.specs.WordLaws.{join-cut, size-join, same_word-true, same_word_is, is_empty-emptied, size-is_empty, length-empty_word}
+use Rattle.vc_model.specs.Cuts.{cuts-In}
+use Rattle.vc_model.specs.Choices.{same_or, cond-times, times-cond, cond-sum}
+use Rattle.vc_model.specs.Rests.{at_rest_same}
 use Rattle.vc_model.proofs.Atoms.{atom_product}
 use Rattle.vc_model.proofs.SeriesLaws.{product_same, product_same_on, product_assoc, plus_product, one_product, weight_product, sum_product}
 use Rattle.vc_model.proofs.StarLaws.{later, star_is, product_later}

@@ -6,10 +6,10 @@ use Rattle.vc_model.specs.WeightSet.{WeightSet, SemiringLaws}
 use Rattle.vc_model.specs.Lists.{In, NoRepeat, IsEqualityTest}
 use Rattle.vc_model.specs.Words.{Word, same_word}
 use Rattle.vc_model.specs.Items.{Item, item_key, taken, mapped, scaled_items, same_item, put_item, grouped_items, collected_items, AreNeat}
-use Rattle.vc_model.proofs.Rearranged.{zero_plus, zero_times, plus_times}
-use Rattle.vc_model.proofs.SumLaws.{sum-append, sum-map, sum_same, sum-times, sum-filter}
-use Rattle.vc_model.proofs.Members.{In-map, In-map_from, In-filter_from}
-use Rattle.vc_model.proofs.WordLaws.{and_parts, and_both, same_word-true, same_word_is}
+use Rattle.vc_model.specs.Rearranged.{zero_plus, zero_times, plus_times}
+use Rattle.vc_model.specs.SumLaws.{sum-append, sum-map, sum_same, sum-times, sum-filter}
+use Rattle.vc_model.specs.Members.{In-map, In-map_from, In-filter_from}
+use Rattle.vc_model.specs.WordLaws.{and_parts, and_both, same_word-true, same_word_is}
 
 module _ {V T : Type 0} {R : WeightSet V} (L : SemiringLaws R) where
   pub taken-append : (h : Word → T → V) (xs ys : List (Item V T)) → taken R h (xs ++ ys) ≡ R.plus (taken R h xs) (taken R h ys)

@@ -12,12 +12,12 @@ use Rattle.vc_model.specs.Automata.{Transition, Automaton, IsAutomaton, IsProper
 use Rattle.vc_model.specs.Items.{Item, item_key, taken, IsGiven, HaveLabels, AreNeat}
 use Rattle.vc_model.specs.Gathered.{IsGathered}
 use Rattle.vc_model.specs.Machines.{place_in, steps_of, initials, machine, StandsFor, LeadsInto}
-use Rattle.vc_model.proofs.Rearranged.{zero_times, one_times}
-use Rattle.vc_model.proofs.SumLaws.{sum_same, sum_zero, sum-map, sum-flat_map}
-use Rattle.vc_model.proofs.Members.{In-map, In-map_from, In-flat_map, In-flat_map_from, In-up_from, up_from-In, NoRepeat-up_from, NoRepeat-map, NoRepeat-flat_map}
-use Rattle.vc_model.proofs.Choices.{cond-sum}
-use Rattle.vc_model.proofs.Keys.{sum_at}
-use Rattle.vc_model.proofs.GatheredLaws.{gathered_steps, gathered_from}
+use Rattle.vc_model.specs.Rearranged.{zero_times, one_times}
+use Rattle.vc_model.specs.SumLaws.{sum_same, sum_zero, sum-map, sum-flat_map}
+use Rattle.vc_model.specs.Members.{In-map, In-map_from, In-flat_map, In-flat_map_from, In-up_from, up_from-In, NoRepeat-up_from, NoRepeat-map, NoRepeat-flat_map}
+use Rattle.vc_model.specs.Choices.{cond-sum}
+use Rattle.vc_model.specs.Keys.{sum_at}
+use Rattle.vc_model.proofs.Gathering.{gathered_steps, gathered_from}
 use Rattle.vc_model.proofs.CircuitLaws.{proper-NoEmptyCircuit}
 use Rattle.vc_model.proofs.OneSolution.{solution_is_future}
 

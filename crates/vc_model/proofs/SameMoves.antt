@@ -6,11 +6,11 @@ use Rattle.vc_model.specs.Sums.{sum_over}
 use Rattle.vc_model.specs.Words.{Word, is_empty, cut, size}
 use Rattle.vc_model.specs.Automata.{Transition, Automaton, initial_weight, final_weight, future_within, coefficient, at_rest}
 use Rattle.vc_model.specs.Moves.{moves_sum}
-use Rattle.vc_model.proofs.SumLaws.{sum_same}
-use Rattle.vc_model.proofs.Members.{In-up_from}
-use Rattle.vc_model.proofs.WordLaws.{join-cut}
-use Rattle.vc_model.proofs.FirstSteps.{future_within-suc, future_within-zero}
-use Rattle.vc_model.proofs.Rests.{at_rest_same}
+use Rattle.vc_model.specs.SumLaws.{sum_same}
+use Rattle.vc_model.specs.Members.{In-up_from}
+use Rattle.vc_model.specs.WordLaws.{join-cut}
+use Rattle.vc_model.specs.FirstSteps.{future_within-suc, future_within-zero}
+use Rattle.vc_model.specs.Rests.{at_rest_same}
 
 module _ {V : Type 0} {R : WeightSet V} (L : SemiringLaws R) (tapes : ℕ) (A B : Automaton V) (labels : (t : Transition V) → In t A.transitions → length t.label ≡ tapes) (to : (t : Transition V) → In t A.transitions → t.to < A.states)
     (labels' : (t : Transition V) → In t B.transitions → length t.label ≡ tapes) (final : (p : ℕ) → p < A.states → final_weight R B p ≡ final_weight R A p)

@@ -12,12 +12,12 @@ use Rattle.vc_model.specs.Letters.{letter_of, step_sum}
 use Rattle.vc_model.specs.Conjugates.{combined}
 use Rattle.vc_model.specs.Gathered.{IsGathered}
 use Rattle.vc_model.specs.Tables.{table_transitions, letter_word, letter_in}
-use Rattle.vc_model.proofs.SumLaws.{sum-map, sum-flat_map, sum_same}
-use Rattle.vc_model.proofs.Members.{up_from-In, NoRepeat-up_from}
-use Rattle.vc_model.proofs.WordLaws.{and_parts, and_both}
-use Rattle.vc_model.proofs.Choices.{cond-sum, times-cond}
-use Rattle.vc_model.proofs.Keys.{sum_pick}
-use Rattle.vc_model.proofs.GatheredLaws.{gathered_steps}
+use Rattle.vc_model.specs.SumLaws.{sum-map, sum-flat_map, sum_same}
+use Rattle.vc_model.specs.Members.{up_from-In, NoRepeat-up_from}
+use Rattle.vc_model.specs.WordLaws.{and_parts, and_both}
+use Rattle.vc_model.specs.Choices.{cond-sum, times-cond}
+use Rattle.vc_model.specs.Keys.{sum_pick}
+use Rattle.vc_model.proofs.Gathering.{gathered_steps}
 use Rattle.vc_model.proofs.ConjugateLaws.{combined-cond}
 
 pub pair_test : {X Y : Type 0} (same : X → X → Bool) (alike : Y → Y → Bool) → IsEqualityTest same → IsEqualityTest alike → IsEqualityTest (same_pair same alike)

@@ -6,7 +6,7 @@ use native.Mathlib.Nat.{div-mul_cancel, dvd-mul_right, dvd_trans, eq-one_of_dvd-
 use Rattle.vc_num.specs.Divisors.{gcd_of}
 use Rattle.vc_num.specs.Range.{in_range}
 use Rattle.vc_num.specs.Divisibility.{gcd_of-is, gcd_of-comm, gcd_of-dvd, gcd_of-positive, gcd_of-quotients, coprime-times}
-use Rattle.vc_model.proofs.Rearranged.{times-times}
+use Rattle.vc_model.specs.Rearranged.{times-times}
 use Rattle.vc_rat.specs.Lowest.{IsLowest}
 use Rattle.vc_rat.specs.Products.{cross_top, cross_bottom}
 use Rattle.vc_rat.specs.Rationals.{times, holds, denominator, positive}

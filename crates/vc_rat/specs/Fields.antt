@@ -6,7 +6,7 @@ use Rattle.std.proofs.Math.IntN.{*ℤ_comm, zero-*ℤ, pos-*ℤ-pos}
 use Rattle.vc_num.specs.Divisors.{gcd_of}
 use Rattle.vc_num.specs.Range.{in_range}
 use Rattle.vc_model.specs.WeightSet.{FieldLaws}
-use Rattle.vc_model.proofs.Rearranged.{plus_times}
+use Rattle.vc_model.specs.Rearranged.{plus_times}
 use Rattle.vc_rat.specs.Lowest.{IsLowest}
 use Rattle.vc_rat.specs.Rationals.{reduced, plus, times, one, holds, denominator, positive, rationals}
 use Rattle.vc_rat.specs.Rationals as rational

@@ -3,7 +3,7 @@ use Rattle.std.specs.Prelude.{◌≡◌, ◌≢◌, ◌*◌, max, ℤ, pos, ◌+
 use Rattle.std.proofs.Common.{refl, sym, ap, ◌∙◌, arith, subst}
 use Rattle.std.proofs.lemmas.Int.{ints}
 use Rattle.vc_model.specs.WeightSet.{SemiringLaws, Absorbs}
-use Rattle.vc_model.proofs.Rearranged.{semiring}
+use Rattle.vc_model.specs.Rearranged.{semiring}
 use Rattle.vc_rat.specs.Reduced.{positive-mul, positive-max, magnitude-is}
 use Rattle.vc_rat.specs.Rationals.{plus, times, zero, one, star, denominator, positive, rationals}
 use Rattle.vc_rat.specs.Stands.{stands-reduced, stands-plus, stands-times, stands-same}

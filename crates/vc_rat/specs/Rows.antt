@@ -2,7 +2,7 @@
 use Rattle.std.specs.Prelude.{◌≡◌, ◌≢◌, ◌↔◌, Bool, true, false, IsTrue, cond, List, [], ◌∷◌, map, if◌then◌else◌}
 use Rattle.std.proofs.Common.{refl, sym, ap, ◌∙◌}
 use Rattle.vc_model.specs.WeightSet.{WeightSet, SemiringLaws, FieldLaws, SplitLaws, IsZeroRow}
-use Rattle.vc_model.proofs.Rearranged.{semiring, times_left, one_times}
+use Rattle.vc_model.specs.Rearranged.{semiring, times_left, one_times}
 
 -- the first entry that is not zero, by a test, and zero where there is none
 abbrev pub first_other : {V : Type 0} → WeightSet V → (V → Bool) → List V → V

@@ -8,7 +8,7 @@ use native.Mathlib.Nat.{dvd-mul_left}
 use Rattle.std.proofs.Props.{props}
 use Rattle.vc_num.specs.Divisibility.{gcd_of-comm, gauss}
 use Rattle.vc_num.specs.Integers.{*ℤ_cancel}
-use Rattle.vc_model.proofs.Rearranged.{semiring}
+use Rattle.vc_model.specs.Rearranged.{semiring}
 use Rattle.vc_rat.specs.Lowest.{IsLowest}
 use Rattle.vc_rat.specs.Reduced.{reduced-same, positive-mul, magnitude-is}
 use Rattle.vc_rat.specs.Rationals.{reduced, plus, times, denominator, positive}

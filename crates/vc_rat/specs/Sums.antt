@@ -6,7 +6,7 @@ use native.Mathlib.Nat.{div-mul_cancel}
 use Rattle.vc_num.specs.Divisors.{gcd_of}
 use Rattle.vc_num.specs.Divisibility.{gcd_of-is}
 use Rattle.vc_model.specs.WeightSet.{WeightSet, SemiringLaws}
-use Rattle.vc_model.proofs.Rearranged.{semiring}
+use Rattle.vc_model.specs.Rearranged.{semiring}
 use Rattle.vc_rat.specs.Reduced.{positive-mul, positive-div}
 use Rattle.vc_rat.specs.Rationals.{plus, denominator, positive}
 use Rattle.vc_rat.specs.Stands.{Stands, stands-plus, stands-same}

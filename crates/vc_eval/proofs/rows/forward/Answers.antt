@@ -3,7 +3,7 @@ use Rattle.std.proofs.lemmas.List.{with_items_is, take_more, take_all}
 use Rattle.std.proofs.lemmas.Result.{err_from_is_err_and}
 use Rattle.vc_model.specs.Automata.{IsAutomaton, row}
 use Rattle.vc_model.specs.WeightSet.{InRange}
-use Rattle.vc_model.proofs.LetterRows.{row_empty}
+use Rattle.vc_model.specs.LetterRows.{row_empty}
 use Rattle.vc_ring.specs.Steps.{AllFit}
 use Rattle.vc_eval.specs.Forward.{by_source, row_steps}
 use Rattle.vc_eval.specs.Moves.{entry, move_steps}

@@ -1,6 +1,6 @@
 use Rattle.std.proofs.Common.{ap, ◌∙◌}
 use Rattle.vc_model.specs.Words.{is_empty, empty_word}
-use Rattle.vc_model.proofs.WordLaws.{size-is_empty, is_empty-size, is_empty-join, empty_from_size, is_empty-empty_word}
+use Rattle.vc_model.specs.WordLaws.{size-is_empty, is_empty-size, is_empty-join, empty_from_size, is_empty-empty_word}
 use Rattle.vc_model.proofs.words.empty_words_are_tested.Goals as goal
 
 pub returns-clause-length : goal.returns-clause-length
