@@ -57,10 +57,10 @@ pub(crate) fn value_of(name: &[u8]) -> u64
 fn key_of(alloc: Global, name: &[u8]) -> Result<(u64, Vec<u8>), AllocError>
     ensures { IfOk result (λ k. IsKeyOf k.0 k.1 name.now) }
 {
-    let mut text = Vec::new(alloc);
     if is_number(name) {
-        return Ok((value_of(name), text));
+        return Ok((value_of(name), Vec::new(alloc)));
     }
+    let mut text = Vec::with_capacity(alloc, name.len())?;
     unescape(name, &mut text)?;
     Ok((NO_NUMBER, text))
 }
@@ -95,7 +95,7 @@ fn keyed<'t>(alloc: Global, found: &[&'t [u8]]) -> Result<Vec<Keyed<'t>>, AllocE
     ensures names { IfOk result (λ v. map (λ p. p.2.now) v.items ≡ map (λ b. b.now) found.now) }
     ensures keys { IfOk result (λ v. All IsKeyed v.items) }
 {
-    let mut keyed = Vec::new(alloc);
+    let mut keyed = Vec::with_capacity(alloc, found.len())?;
     for name in found {
         let (rank, text) = key_of(alloc, name)?;
         keyed.push((rank, text, *name))?;
@@ -111,7 +111,7 @@ pub(crate) fn in_order<'t>(alloc: Global, found: &Names<'t>) -> Result<Names<'t>
 {
     let mut keyed = keyed(alloc, found.as_slice())?;
     keyed.sort()?;
-    let mut names = IndexSet::new(alloc);
+    let mut names = IndexSet::with_capacity(alloc, keyed.len())?;
     for entry in &keyed {
         add_name(&mut names, entry.2)?;
     }
