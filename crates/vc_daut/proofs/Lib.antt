@@ -7,6 +7,7 @@ pub mod Parts
 pub mod Digits
 pub mod Found
 pub mod Numbered
+pub mod Noted
 pub mod Judged
 pub mod Checked
 pub mod Lettered

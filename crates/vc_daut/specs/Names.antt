@@ -1,5 +1,5 @@
 -- The names of states, and their order.
-use Rattle.std.specs.Prelude.{◌≡◌, ◌↔◌, ℕ, ◌+◌, ◌*◌, ◌-◌, Bool, true, false, ◌&&◌, nat_le, ◌==◌, not, List, [], ◌∷◌, ◌++◌, length, fold, if◌then◌else◌, ⊤}
+use Rattle.std.specs.Prelude.{◌≡◌, ◌↔◌, ℕ, ◌+◌, ◌*◌, ◌-◌, Bool, true, false, ◌&&◌, nat_le, ◌==◌, not, slice_index_or, List, [], ◌∷◌, ◌++◌, length, fold, if◌then◌else◌, ⊤}
 use Rattle.std.specs.List.{list_all, list_any, flat_map}
 use Rattle.std.specs.Str.{bytes_eq}
 use Rattle.std.specs.Ordering.{nat_cmp, is_lt}
@@ -73,3 +73,7 @@ with_names names (a ∷ more) = with_names (with_name names a) more
 abbrev pub AreNumbers : ℕ → List (List ℕ) → Type 0
 AreNumbers n [] = ⊤
 AreNumbers n (a ∷ names) = (value_of a ≡ n) × AreNumbers (n + 1) names
+
+-- a number is among the names where the place of its value is marked
+abbrev pub AreMarked : List Bool → List (List ℕ) → Type 0
+AreMarked marks names = (a : List ℕ) → is_number a ≡ true → slice_index_or marks (value_of a) false ≡ true → list_any (bytes_eq a) names ≡ true

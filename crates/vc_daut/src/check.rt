@@ -1,8 +1,9 @@
-ghost use Rattle.std.specs.Prelude.{◌≡◌, ◌+◌, ◌<◌, ◌^◌, length, map, true, IfOk, MatchOption};
+ghost use Rattle.std.specs.Prelude.{◌≡◌, ◌+◌, ◌<◌, ◌^◌, length, map, true, IfOk, MatchOption, OnOk};
 ghost use Rattle.vc_daut.specs.Grammar.{entries_of, have_labels, has_labels};
 ghost use Rattle.vc_daut.specs.Marks.{end_of, span_of};
 ghost use Rattle.vc_daut.specs.Spelling.{AreEntriesOver, IsFirstEntry, IsLineOver, IsFirstInLine};
 ghost use Rattle.vc_daut.specs.Lines.{more_lines};
+ghost use Rattle.vc_daut.specs.Names.{AreMarked};
 ghost use Rattle.vc_daut.specs.Passes.{IsChecked, IsJudged, first_outside};
 ghost use Rattle.vc_daut.specs.Views.{seen, line_seen, names_seen, AreFit, IsFitLine};
 
@@ -10,12 +11,15 @@ use crate::fault::DautFault;
 use crate::label::{Tapes, is_label_over};
 use crate::line::{Line, cut_entry, entry_of, line_of};
 use crate::lines::cut_line;
-use crate::names::{Names, add_names};
+use crate::names::{Names, add_names, no_marks};
 use crate::tokens::cut_tokens;
 use std::alloc::{AllocError, Global};
 use vc_label::LabelSet;
 use vc_lex::Token;
 use vc_ring::Semiring;
+
+/// A number of a state below it is marked once it is found.
+const MOST_MARKS: usize = 1_000_000;
 
 /// From which place of its line to which one a label stands.
 pub type Span = (usize, usize);
@@ -110,8 +114,11 @@ fn check_line<'t, L: LabelSet, S: Semiring>(
     tokens: &mut Vec<Token<'t>>,
     text: &'t [u8],
     names: &mut Names<'t>,
+    marks: &mut Vec<bool>,
 ) -> Result<Judged, AllocError>
-    ensures { IfOk result (IsJudged S.spelled (L.sets labels.now) text.now (names_seen names.old) (names_seen names.new)) }
+    requires { AreMarked marks.old.items (names_seen names.old) }
+    ensures judged { IfOk result (IsJudged S.spelled (L.sets labels.now) text.now (names_seen names.old) (names_seen names.new)) }
+    ensures marked { OnOk result (AreMarked marks.new.items (names_seen names.new)) }
 {
     if !cut_tokens(text, tokens)? {
         return Ok(Judged::Bad);
@@ -119,7 +126,7 @@ fn check_line<'t, L: LabelSet, S: Semiring>(
     let Some(line) = line_of::<S>(tokens) else {
         return Ok(Judged::Bad);
     };
-    add_names(names, &line)?;
+    add_names(names, marks, &line)?;
     let outside = outside_line(alloc, labels, tapes, &line)?;
     Ok(Judged::Good(outside))
 }
@@ -148,12 +155,24 @@ pub(crate) fn check_lines<'t, L: LabelSet, S: Semiring>(
 {
     let mut tokens = Vec::new(alloc);
     let mut tapes = Tapes::new(alloc);
+    let mut marks = match no_marks(alloc, text.len().min(MOST_MARKS)) {
+        Ok(marks) => marks,
+        Err(e) => return Err(DautFault::Memory(e)),
+    };
     let mut outside = None;
     let mut number = first;
     let mut rest = text;
     while !rest.is_empty() {
         let (line, after) = cut_line(rest);
-        let found = match check_line::<L, S>(alloc, labels, &mut tapes, &mut tokens, line, names) {
+        let found = match check_line::<L, S>(
+            alloc,
+            labels,
+            &mut tapes,
+            &mut tokens,
+            line,
+            names,
+            &mut marks,
+        ) {
             Ok(Judged::Good(found)) => found,
             Ok(Judged::Bad) => return Err(DautFault::Syntax { line: number }),
             Err(e) => return Err(DautFault::Memory(e)),

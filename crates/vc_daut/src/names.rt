@@ -1,7 +1,7 @@
-ghost use Rattle.std.specs.Prelude.{◌≡◌, ◌<◌, true, All, IfOk, OnOk, length, map};
+ghost use Rattle.std.specs.Prelude.{◌≡◌, ◌<◌, ℕ, true, false, slice_index_or, All, IfOk, OnOk, length, map};
 ghost use Rattle.vc_model.specs.Lists.{NoRepeat};
 ghost use Rattle.std.specs.List.{list_all};
-ghost use Rattle.vc_daut.specs.Names.{is_digit, has_no_zero_in_front, is_number, value_of, line_names, with_name, with_names, AreInOrder, AreNumbers};
+ghost use Rattle.vc_daut.specs.Names.{is_digit, has_no_zero_in_front, is_number, value_of, line_names, with_name, with_names, AreInOrder, AreMarked, AreNumbers};
 ghost use Rattle.vc_daut.specs.Keys.{IsKeyOf, IsKeyed};
 ghost use Rattle.vc_daut.specs.Views.{line_seen, names_seen};
 
@@ -57,28 +57,83 @@ pub(crate) fn value_of(name: &[u8]) -> u64
 fn key_of(alloc: Global, name: &[u8]) -> Result<(u64, Vec<u8>), AllocError>
     ensures { IfOk result (λ k. IsKeyOf k.0 k.1 name.now) }
 {
-    let mut text = Vec::new(alloc);
     if is_number(name) {
-        return Ok((value_of(name), text));
+        return Ok((value_of(name), Vec::new(alloc)));
     }
+    let mut text = Vec::with_capacity(alloc, name.len())?;
     unescape(name, &mut text)?;
     Ok((NO_NUMBER, text))
 }
 
 /// Adds the names of the states of a line.
-pub(crate) fn add_names<'t>(names: &mut Names<'t>, line: &Line<'_, 't>) -> Result<(), AllocError>
-    ensures { OnOk result (names_seen names.new ≡ with_names (names_seen names.old) (line_names (line_seen line.now))) }
+pub(crate) fn add_names<'t>(
+    names: &mut Names<'t>,
+    marks: &mut Vec<bool>,
+    line: &Line<'_, 't>,
+) -> Result<(), AllocError>
+    requires { AreMarked marks.old.items (names_seen names.old) }
+    ensures names { OnOk result (names_seen names.new ≡ with_names (names_seen names.old) (line_names (line_seen line.now))) }
+    ensures marked { OnOk result (AreMarked marks.new.items (names_seen names.new)) }
 {
     match line {
         Line::Blank => Ok(()),
-        Line::Initial(state, _) => add_name(names, name_of(*state)),
-        Line::Final(state, _) => add_name(names, name_of(*state)),
-        Line::State(state) => add_name(names, name_of(*state)),
+        Line::Initial(state, _) => add_state(names, marks, name_of(*state)),
+        Line::Final(state, _) => add_state(names, marks, name_of(*state)),
+        Line::State(state) => add_state(names, marks, name_of(*state)),
         Line::Moves(from, to, _) => {
-            add_name(names, name_of(*from))?;
-            add_name(names, name_of(*to))
+            add_state(names, marks, name_of(*from))?;
+            add_state(names, marks, name_of(*to))
         }
     }
+}
+
+/// Adds the name of a state.
+fn add_state<'t>(
+    names: &mut Names<'t>,
+    marks: &mut Vec<bool>,
+    name: &'t [u8],
+) -> Result<(), AllocError>
+    requires { AreMarked marks.old.items (names_seen names.old) }
+    ensures names { OnOk result (names_seen names.new ≡ with_name (names_seen names.old) name.now) }
+    ensures marked { OnOk result (AreMarked marks.new.items (names_seen names.new)) }
+{
+    if is_number(name) {
+        return add_number(names, marks, name);
+    }
+    add_name(names, name)?;
+    Ok(())
+}
+
+/// Adds a number, and marks the place of its value. Where this is marked, the number is there already.
+fn add_number<'t>(
+    names: &mut Names<'t>,
+    marks: &mut Vec<bool>,
+    name: &'t [u8],
+) -> Result<(), AllocError>
+    requires number { is_number name.now ≡ true }
+    requires marked { AreMarked marks.old.items (names_seen names.old) }
+    ensures names { OnOk result (names_seen names.new ≡ with_name (names_seen names.old) name.now) }
+    ensures marked { OnOk result (AreMarked marks.new.items (names_seen names.new)) }
+{
+    let value = value_of(name);
+    if value >= marks.len() as u64 {
+        add_name(names, name)?;
+        return Ok(());
+    }
+    let place = value as usize;
+    if marks[place] {
+        return Ok(());
+    }
+    add_name(names, name)?;
+    marks[place] = true;
+    Ok(())
+}
+
+/// So many places, of which none is marked.
+pub(crate) fn no_marks(alloc: Global, count: usize) -> Result<Vec<bool>, AllocError>
+    ensures { IfOk result (λ marks. (q : ℕ) → slice_index_or marks.items q false ≡ false) }
+{
+    vec![in alloc; false; count]
 }
 
 fn add_name<'t>(names: &mut Names<'t>, name: &'t [u8]) -> Result<(), AllocError>
@@ -95,7 +150,7 @@ fn keyed<'t>(alloc: Global, found: &[&'t [u8]]) -> Result<Vec<Keyed<'t>>, AllocE
     ensures names { IfOk result (λ v. map (λ p. p.2.now) v.items ≡ map (λ b. b.now) found.now) }
     ensures keys { IfOk result (λ v. All IsKeyed v.items) }
 {
-    let mut keyed = Vec::new(alloc);
+    let mut keyed = Vec::with_capacity(alloc, found.len())?;
     for name in found {
         let (rank, text) = key_of(alloc, name)?;
         keyed.push((rank, text, *name))?;
@@ -111,7 +166,7 @@ pub(crate) fn in_order<'t>(alloc: Global, found: &Names<'t>) -> Result<Names<'t>
 {
     let mut keyed = keyed(alloc, found.as_slice())?;
     keyed.sort()?;
-    let mut names = IndexSet::new(alloc);
+    let mut names = IndexSet::with_capacity(alloc, keyed.len())?;
     for entry in &keyed {
         add_name(&mut names, entry.2)?;
     }

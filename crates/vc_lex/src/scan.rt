@@ -106,6 +106,7 @@ fn begins_with(byte: u8, text: &[u8]) -> bool
 }
 
 /// What begins the text. A letter or a run comes first, since no other token begins with a letter.
+#[inline(always)]
 pub fn token_at(mode: Mode, text: &[u8]) -> Scan
     ensures { result ≡ token_at mode text.now }
 {

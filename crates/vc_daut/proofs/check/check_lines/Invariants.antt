@@ -1,5 +1,6 @@
 use Rattle.std.proofs.Common.{◌+◌, ◌<◌, ◌^◌, length}
 use Rattle.vc_daut.specs.Lines.{more_lines}
+use Rattle.vc_daut.specs.Names.{AreMarked}
 use Rattle.vc_daut.specs.Views.{names_seen}
 use Rattle.vc_daut.proofs.Checked.{IsCheckedTo}
 use Rattle.vc_daut.proofs.check.check_lines.Given as goal
@@ -9,6 +10,7 @@ abbrev pub invariant-loop-rest : goal.invariant-loop-rest
 invariant-loop-rest g l =
     (l.number + length l.rest < 2 ^ 64)
     × IsCheckedTo g.S.Semiring.spelled (g.L.LabelSet.sets l.labels) l.first (more_lines l.text) (names_seen l.initial.names) l.number (more_lines l.rest) (names_seen l.names) l.outside
+    × AreMarked l.marks.items (names_seen l.names)
 
 abbrev pub decreases-loop-rest : goal.decreases-loop-rest
 decreases-loop-rest g l = length l.rest
