@@ -14,7 +14,7 @@ ghost use Rattle.vc_model.specs.Lists.{In};
 use crate::class::Class;
 use crate::label::{Tapes, parts_label};
 use crate::line::{Line, class_body, cut_entry, entry_of, inside, is_class, name_of};
-use crate::names::{Names, is_number, value_of};
+use crate::names::Numbering;
 use std::alloc::Global;
 use std::slice;
 use vc_aut::{Builder, drafts_are_valid};
@@ -36,26 +36,6 @@ fn weight_of<S: Semiring>(token: Option<Token<'_>>) -> Result<S::Value, MakeFaul
         Err(NumberFault::Overflow) => {
             return Err(MakeFault::Overflow(Overflow::Numeral { at: token.at }));
         }
-    }
-}
-
-/// The number of a state that has a name among these. Where each name is the number of its place, it is its value.
-fn number(names: &Names<'_>, numbers: bool, state: Token<'_>) -> u32
-    requires named { In (name_of (seen state)) (names_seen names.now) }
-    requires few { length (names_seen names.now) ≤ 1000000 }
-    requires numbers { numbers ≡ true → AreNumbers 0 (names_seen names.now) }
-    ensures value { result ≡ number_of (names_seen names.now) (name_of (seen state.entry)) }
-    ensures below { result < length (names_seen names.now) }
-{
-    let name = name_of(state);
-    if numbers {
-        if is_number(name) {
-            return value_of(name) as u32;
-        }
-    }
-    match names.get_index_of(name) {
-        Some(number) => number as u32,
-        None => unreachable!(),
     }
 }
 
@@ -277,18 +257,17 @@ pub(crate) fn add_line<L: LabelSet, S: Semiring>(
     builder: &mut Builder<L, S>,
     labels: &L,
     tapes: &mut Tapes,
-    names: &Names<'_>,
-    numbers: bool,
+    numbering: &Numbering<'_>,
     line: &Line<'_, '_>,
 ) -> Result<(), MakeFault<S::Value>>
     requires sets { builder.old.sets ≡ L.sets labels.now }
-    requires states { builder.old.automaton.states ≡ length (names_seen names.now) }
-    requires named { (a : List ℕ) → In a (line_names (line_seen line.now)) → In a (names_seen names.now) }
-    requires numbers { numbers ≡ true → AreNumbers 0 (names_seen names.now) }
+    requires states { builder.old.automaton.states ≡ length (names_seen numbering.now.names) }
+    requires named { (a : List ℕ) → In a (line_names (line_seen line.now)) → In a (names_seen numbering.now.names) }
+    requires places { numbering.now.are_places ≡ true → AreNumbers 0 (names_seen numbering.now.names) }
     requires labels { has_labels (line_seen line.now) ≡ true }
     requires over { IsLineOver (L.sets labels.now) (line_seen line.now) }
     ensures answer { IsAdded S.set S.spelled S.numbers_fit (line_weights (line_seen line.now)) builder.old
-        (given_by S.set S.spelled (L.sets labels.now) (number_of (names_seen names.now)) (line_seen line.now)) builder.new result }
+        (given_by S.set S.spelled (L.sets labels.now) (number_of (names_seen numbering.now.names)) (line_seen line.now)) builder.new result }
     ensures kept { OnOk result (KeepsShape builder.old builder.new) }
 {
     drafts_are_valid(builder);
@@ -296,16 +275,12 @@ pub(crate) fn add_line<L: LabelSet, S: Semiring>(
         Line::Blank => return Ok(()),
         Line::State(_) => return Ok(()),
         Line::Initial(state, weight) => {
-            return add_initial(builder, number(names, numbers, *state), weight);
+            return add_initial(builder, numbering.number(*state), weight);
         }
-        Line::Final(state, weight) => return add_final(
-            builder,
-            number(names, numbers, *state),
-            weight,
-        ),
+        Line::Final(state, weight) => return add_final(builder, numbering.number(*state), weight),
         Line::Moves(from, to, entries) => {
-            let from = number(names, numbers, *from);
-            let to = number(names, numbers, *to);
+            let from = numbering.number(*from);
+            let to = numbering.number(*to);
             return add_entries(alloc, builder, labels, tapes, from, entries, to);
         }
     }

@@ -1,17 +1,50 @@
-ghost use Rattle.std.specs.Prelude.{◌≡◌, ◌<◌, ℕ, true, false, slice_index_or, All, IfOk, OnOk, length, map};
-ghost use Rattle.vc_model.specs.Lists.{NoRepeat};
+ghost use Rattle.std.specs.Prelude.{◌≡◌, ◌<◌, ◌≤◌, ℕ, true, false, slice_index_or, All, IfOk, OnOk, length, map};
+ghost use Rattle.vc_model.specs.Lists.{In, NoRepeat};
 ghost use Rattle.std.specs.List.{list_all};
 ghost use Rattle.vc_daut.specs.Names.{is_digit, has_no_zero_in_front, is_number, value_of, line_names, with_name, with_names, AreInOrder, AreMarked, AreNumbers};
 ghost use Rattle.vc_daut.specs.Keys.{IsKeyOf, IsKeyed};
-ghost use Rattle.vc_daut.specs.Views.{line_seen, names_seen};
+ghost use Rattle.vc_daut.specs.Grammar.{name_of};
+ghost use Rattle.vc_daut.specs.Meaning.{number_of};
+ghost use Rattle.vc_daut.specs.Views.{seen, line_seen, names_seen};
 
 use crate::label::unescape;
 use crate::line::{Line, name_of};
 use indexmap::IndexSet;
 use std::alloc::{AllocError, Global};
+use vc_lex::Token;
 
 /// The names of states, each once; a name is written as it stands in double quotes.
 pub(crate) type Names<'t> = IndexSet<&'t [u8]>;
+
+/// The names of states in their order, where the number of a state is the place of its name.
+#[derive(Drop)]
+pub(crate) struct Numbering<'t> {
+    pub(crate) names: Names<'t>,
+    /// Only where it is true, each name is the number of its place, and needs no look-up.
+    are_places: bool,
+}
+
+impl<'t> Numbering<'t> {
+    /// The number of a state that has a name among these.
+    pub(crate) fn number(&self, state: Token<'_>) -> u32
+        requires named { In (name_of (seen state)) (names_seen self.now.names) }
+        requires few { length (names_seen self.now.names) ≤ 1000000 }
+        requires places { self.now.are_places ≡ true → AreNumbers 0 (names_seen self.now.names) }
+        ensures value { result ≡ number_of (names_seen self.now.names) (name_of (seen state.entry)) }
+        ensures below { result < length (names_seen self.now.names) }
+    {
+        let name = name_of(state);
+        if self.are_places {
+            if is_number(name) {
+                return value_of(name) as u32;
+            }
+        }
+        match self.names.get_index_of(name) {
+            Some(number) => number as u32,
+            None => unreachable!(),
+        }
+    }
+}
 
 /// What a name is ordered by: the value of a number, or a number above all of these and the bytes of the name; and the
 /// name.
@@ -158,11 +191,12 @@ fn keyed<'t>(alloc: Global, found: &[&'t [u8]]) -> Result<Vec<Keyed<'t>>, AllocE
     Ok(keyed)
 }
 
-/// The names in their order: the number of a state is the place of its name.
-pub(crate) fn in_order<'t>(alloc: Global, found: &Names<'t>) -> Result<Names<'t>, AllocError>
+/// The names in their order.
+pub(crate) fn in_order<'t>(alloc: Global, found: &Names<'t>) -> Result<Numbering<'t>, AllocError>
     requires { NoRepeat (names_seen found.now) }
-    ensures order { IfOk result (λ names. AreInOrder (names_seen found.now) (names_seen names)) }
-    ensures count { IfOk result (λ names. length (names_seen names) ≡ length (names_seen found.now)) }
+    ensures order { IfOk result (λ n. AreInOrder (names_seen found.now) (names_seen n.names)) }
+    ensures count { IfOk result (λ n. length (names_seen n.names) ≡ length (names_seen found.now)) }
+    ensures places { IfOk result (λ n. n.are_places ≡ true → AreNumbers 0 (names_seen n.names)) }
 {
     let mut keyed = keyed(alloc, found.as_slice())?;
     keyed.sort()?;
@@ -170,11 +204,12 @@ pub(crate) fn in_order<'t>(alloc: Global, found: &Names<'t>) -> Result<Names<'t>
     for entry in &keyed {
         add_name(&mut names, entry.2)?;
     }
-    Ok(names)
+    let are_places = are_numbers(&names);
+    Ok(Numbering { names, are_places })
 }
 
 /// Whether each name is the number of its place, as in texts that are canonical.
-pub(crate) fn are_numbers(names: &Names<'_>) -> bool
+fn are_numbers(names: &Names<'_>) -> bool
     ensures { result ≡ true → AreNumbers 0 (names_seen names.now) }
 {
     let mut place = 0;

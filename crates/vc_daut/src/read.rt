@@ -19,7 +19,7 @@ use crate::head::{Head, head_of};
 use crate::label::Tapes;
 use crate::line::line_of;
 use crate::lines::cut_line;
-use crate::names::{Names, are_numbers, in_order};
+use crate::names::{Numbering, in_order};
 use crate::tokens::cut_tokens;
 use indexmap::IndexSet;
 use std::alloc::Global;
@@ -47,17 +47,16 @@ fn add_text<'t, L: LabelSet, S: Semiring>(
     labels: &L,
     tapes: &mut Tapes,
     tokens: &mut Vec<Token<'t>>,
-    names: &Names<'_>,
-    numbers: bool,
+    numbering: &Numbering<'_>,
     text: &'t [u8],
 ) -> Result<(), MakeFault<S::Value>>
     requires sets { builder.old.sets ≡ L.sets labels.now }
-    requires states { builder.old.automaton.states ≡ length (names_seen names.now) }
-    requires named { (a : List ℕ) → In a (line_names (line_in S.spelled text.now)) → In a (names_seen names.now) }
-    requires numbers { numbers ≡ true → AreNumbers 0 (names_seen names.now) }
+    requires states { builder.old.automaton.states ≡ length (names_seen numbering.now.names) }
+    requires named { (a : List ℕ) → In a (line_names (line_in S.spelled text.now)) → In a (names_seen numbering.now.names) }
+    requires places { numbering.now.are_places ≡ true → AreNumbers 0 (names_seen numbering.now.names) }
     requires over { IsLineOver (L.sets labels.now) (line_in S.spelled text.now) }
     ensures answer { IsAdded S.set S.spelled S.numbers_fit (line_weights (line_in S.spelled text.now)) builder.old
-        (given_by S.set S.spelled (L.sets labels.now) (number_of (names_seen names.now)) (line_in S.spelled text.now)) builder.new result }
+        (given_by S.set S.spelled (L.sets labels.now) (number_of (names_seen numbering.now.names)) (line_in S.spelled text.now)) builder.new result }
     ensures kept { OnOk result (KeepsShape builder.old builder.new) }
 {
     match cut_tokens(text, tokens) {
@@ -68,7 +67,7 @@ fn add_text<'t, L: LabelSet, S: Semiring>(
     let Some(line) = line_of::<S>(tokens) else {
         return Ok(());
     };
-    add_line(alloc, builder, labels, tapes, names, numbers, &line)
+    add_line(alloc, builder, labels, tapes, numbering, &line)
 }
 
 /// Adds what the lines of a text give, of which the first has this number.
@@ -76,19 +75,18 @@ fn add_lines<L: LabelSet, S: Semiring>(
     alloc: Global,
     builder: &mut Builder<L, S>,
     labels: &L,
-    names: &Names<'_>,
-    numbers: bool,
+    numbering: &Numbering<'_>,
     text: &[u8],
     first: u64,
 ) -> Result<(), DautFault<S::Value>>
     requires room { first + length text.now < 2 ^ 64 }
     requires sets { builder.old.sets ≡ L.sets labels.now }
-    requires states { builder.old.automaton.states ≡ length (names_seen names.now) }
-    requires named { (a : List ℕ) → In a (flat_map line_names (lines_in S.spelled (more_lines text.now))) → In a (names_seen names.now) }
-    requires numbers { numbers ≡ true → AreNumbers 0 (names_seen names.now) }
+    requires states { builder.old.automaton.states ≡ length (names_seen numbering.now.names) }
+    requires named { (a : List ℕ) → In a (flat_map line_names (lines_in S.spelled (more_lines text.now))) → In a (names_seen numbering.now.names) }
+    requires places { numbering.now.are_places ≡ true → AreNumbers 0 (names_seen numbering.now.names) }
     requires over { AreOver (L.sets labels.now) (lines_in S.spelled (more_lines text.now)) }
     ensures kept { OnOk result (KeepsShape builder.old builder.new) }
-    ensures answer { AreAdded S.set S.spelled S.numbers_fit (given_by S.set S.spelled (L.sets labels.now) (number_of (names_seen names.now)))
+    ensures answer { AreAdded S.set S.spelled S.numbers_fit (given_by S.set S.spelled (L.sets labels.now) (number_of (names_seen numbering.now.names)))
         first (lines_in S.spelled (more_lines text.now)) builder.old builder.new result }
 {
     let mut tokens = Vec::new(alloc);
@@ -103,8 +101,7 @@ fn add_lines<L: LabelSet, S: Semiring>(
             labels,
             &mut tapes,
             &mut tokens,
-            names,
-            numbers,
+            numbering,
             line,
         ) {
             return Err(fault_at(number, fault));
@@ -136,24 +133,24 @@ fn add_states<L: LabelSet, S: Semiring>(
 fn build<L: LabelSet, S: Semiring>(
     alloc: Global,
     labels: L,
-    names: &Names<'_>,
+    numbering: &Numbering<'_>,
     text: &[u8],
     first: u64,
 ) -> Result<Automaton<L, S>, DautFault<S::Value>>
     requires room { first + length text.now < 2 ^ 64 }
-    requires few { length (names_seen names.now) ≤ 1000000 }
-    requires named { (a : List ℕ) → In a (flat_map line_names (lines_in S.spelled (more_lines text.now))) → In a (names_seen names.now) }
+    requires few { length (names_seen numbering.now.names) ≤ 1000000 }
+    requires named { (a : List ℕ) → In a (flat_map line_names (lines_in S.spelled (more_lines text.now))) → In a (names_seen numbering.now.names) }
+    requires places { numbering.now.are_places ≡ true → AreNumbers 0 (names_seen numbering.now.names) }
     requires over { AreOver (L.sets labels) (lines_in S.spelled (more_lines text.now)) }
-    ensures answer { IsBuiltBy S.set S.Value.eq S.spelled S.numbers_fit (L.sets labels) first (lines_in S.spelled (more_lines text.now)) (names_seen names.now) result }
+    ensures answer { IsBuiltBy S.set S.Value.eq S.spelled S.numbers_fit (L.sets labels) first (lines_in S.spelled (more_lines text.now)) (names_seen numbering.now.names) result }
     ensures sets { IfOk result (λ a. a.sets ≡ L.sets labels) }
     ensures states { IfOk result (λ a. a.automaton.states ≤ 1000000) }
 {
-    let numbers = are_numbers(names);
     let mut builder = Builder::new(alloc, labels, MOST_STATES);
-    if let Err(fault) = add_states(&mut builder, names.len()) {
+    if let Err(fault) = add_states(&mut builder, numbering.names.len()) {
         return Err(fault_at(first, fault));
     }
-    if let Err(fault) = add_lines(alloc, &mut builder, &labels, names, numbers, text, first) {
+    if let Err(fault) = add_lines(alloc, &mut builder, &labels, numbering, text, first) {
         return Err(fault);
     }
     drafts_are_valid(&builder);
@@ -194,9 +191,9 @@ pub fn read_daut<L: LabelSet, S: Semiring>(
             most: MOST_STATES,
         }));
     }
-    let names = match in_order(alloc, &found) {
-        Ok(names) => names,
+    let numbering = match in_order(alloc, &found) {
+        Ok(numbering) => numbering,
         Err(e) => return Err(DautFault::Memory(e)),
     };
-    build(alloc, labels, &names, text, line)
+    build(alloc, labels, &numbering, text, line)
 }

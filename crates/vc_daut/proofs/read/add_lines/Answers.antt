@@ -23,7 +23,7 @@ returns-in-Err-clause-answer g c =
     let R = g.S.Semiring.set in
     let spelled = g.S.Semiring.spelled in
     let fit = g.S.Semiring.numbers_fit in
-    let given = given_by R spelled (g.L.LabelSet.sets c.args.labels.now) (number_of (names_seen c.args.names.now)) in
+    let given = given_by R spelled (g.L.LabelSet.sets c.args.labels.now) (number_of (names_seen c.args.numbering.now.names)) in
     let p : 0 < length c.loop-rest.rest.now = search rules in
     let w : more_lines c.loop-rest.rest.now ≡ c.cut_line.result.0.now ∷ more_lines c.cut_line.result.1.now = some_lines c.loop-rest.rest.now p ∙ c.cut_line.ensures.lines in
     c.loop-rest.invariant.1 c.add_text.new.builder (Err c.fault_at.result)
@@ -37,7 +37,7 @@ loop-rest-preserved g c =
     let spelled = g.S.Semiring.spelled in
     let fit = g.S.Semiring.numbers_fit in
     let sets = g.L.LabelSet.sets c.args.labels.now in
-    let given = given_by R spelled sets (number_of (names_seen c.args.names.now)) in
+    let given = given_by R spelled sets (number_of (names_seen c.args.numbering.now.names)) in
     let p : 0 < length c.loop-rest.rest.now = search rules in
     let w : more_lines c.loop-rest.rest.now ≡ c.cut_line.result.0.now ∷ more_lines c.cut_line.result.1.now = some_lines c.loop-rest.rest.now p ∙ c.cut_line.ensures.lines in
     let k = c.in_default.ensures.kept in
@@ -57,7 +57,7 @@ returns-clause-answer g c =
     let R = g.S.Semiring.set in
     let spelled = g.S.Semiring.spelled in
     let fit = g.S.Semiring.numbers_fit in
-    let given = given_by R spelled (g.L.LabelSet.sets c.args.labels.now) (number_of (names_seen c.args.names.now)) in
+    let given = given_by R spelled (g.L.LabelSet.sets c.args.labels.now) (number_of (names_seen c.args.numbering.now.names)) in
     let z : length c.loop-rest.rest.now ≡ 0 = search rules in
     c.loop-rest.invariant.1 c.loop-rest.builder (Ok tt)
     (subst (λ ts. AreAdded R spelled fit given c.loop-rest.number (lines_in spelled ts) c.loop-rest.builder c.loop-rest.builder (Ok tt)) (sym (no_lines c.loop-rest.rest.now z)) (refl, tt, (λ m h. absurd h)))

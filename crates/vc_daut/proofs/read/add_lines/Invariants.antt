@@ -16,11 +16,11 @@ invariant-loop-rest g l =
     let spelled = g.S.Semiring.spelled in
     let sets = g.L.LabelSet.sets l.labels in
     (l.number + length l.rest < 2 ^ 64)
-    × LeadLines g.S.Semiring.set spelled g.S.Semiring.numbers_fit (given_by g.S.Semiring.set spelled sets (number_of (names_seen l.names)))
+    × LeadLines g.S.Semiring.set spelled g.S.Semiring.numbers_fit (given_by g.S.Semiring.set spelled sets (number_of (names_seen l.numbering.names)))
     l.number (lines_in spelled (more_lines l.rest)) l.builder l.first (lines_in spelled (more_lines l.text)) l.initial.builder
     × KeepsShape l.initial.builder l.builder
     × AreOver sets (lines_in spelled (more_lines l.rest))
-    × ((a : List ℕ) → In a (flat_map line_names (lines_in spelled (more_lines l.rest))) → In a (names_seen l.names))
+    × ((a : List ℕ) → In a (flat_map line_names (lines_in spelled (more_lines l.rest))) → In a (names_seen l.numbering.names))
 
 abbrev pub decreases-loop-rest : goal.decreases-loop-rest
 decreases-loop-rest g l = length l.rest

@@ -13,7 +13,7 @@ add_lines-requires-clause-states g c =
     let s = states_count g.S.Semiring.set c.len.result c.new-builder.result in
     let z = ap (λ d. d.automaton.states) c.new-builder.ensures in
     let l = c.len.ensures.len in
-    let m = length-map c.args.names.now.keys (λ b. b.now) in
+    let m = length-map c.args.numbering.now.names.keys (λ b. b.now) in
     omega (arith, e, s, z, l, m)
 
 pub returns-in-Ok-clause-sets : goal.returns-in-Ok-clause-sets
