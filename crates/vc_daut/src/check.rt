@@ -11,15 +11,12 @@ use crate::fault::DautFault;
 use crate::label::{Tapes, is_label_over};
 use crate::line::{Line, cut_entry, entry_of, line_of};
 use crate::lines::cut_line;
-use crate::names::{Names, add_names, no_marks};
+use crate::names::Found;
 use crate::tokens::cut_tokens;
 use std::alloc::{AllocError, Global};
 use vc_label::LabelSet;
 use vc_lex::Token;
 use vc_ring::Semiring;
-
-/// A number of a state below it is marked once it is found.
-const MOST_MARKS: usize = 1_000_000;
 
 /// From which place of its line to which one a label stands.
 pub type Span = (usize, usize);
@@ -113,12 +110,11 @@ fn check_line<'t, L: LabelSet, S: Semiring>(
     tapes: &mut Tapes,
     tokens: &mut Vec<Token<'t>>,
     text: &'t [u8],
-    names: &mut Names<'t>,
-    marks: &mut Vec<bool>,
+    found: &mut Found<'t>,
 ) -> Result<Judged, AllocError>
-    requires { AreMarked marks.old.items (names_seen names.old) }
-    ensures judged { IfOk result (IsJudged S.spelled (L.sets labels.now) text.now (names_seen names.old) (names_seen names.new)) }
-    ensures marked { OnOk result (AreMarked marks.new.items (names_seen names.new)) }
+    requires { AreMarked found.old.marks.items (names_seen found.old.names) }
+    ensures judged { IfOk result (IsJudged S.spelled (L.sets labels.now) text.now (names_seen found.old.names) (names_seen found.new.names)) }
+    ensures marked { OnOk result (AreMarked found.new.marks.items (names_seen found.new.names)) }
 {
     if !cut_tokens(text, tokens)? {
         return Ok(Judged::Bad);
@@ -126,7 +122,7 @@ fn check_line<'t, L: LabelSet, S: Semiring>(
     let Some(line) = line_of::<S>(tokens) else {
         return Ok(Judged::Bad);
     };
-    add_names(names, marks, &line)?;
+    found.add_names(&line)?;
     let outside = outside_line(alloc, labels, tapes, &line)?;
     Ok(Judged::Good(outside))
 }
@@ -148,36 +144,25 @@ pub(crate) fn check_lines<'t, L: LabelSet, S: Semiring>(
     labels: &L,
     text: &'t [u8],
     first: u64,
-    names: &mut Names<'t>,
+    found: &mut Found<'t>,
 ) -> Result<(), DautFault<S::Value>>
-    requires { first + length text.now < 2 ^ 64 }
-    ensures { IsChecked S.spelled (L.sets labels.now) first (more_lines text.now) (names_seen names.old) (names_seen names.new) result }
+    requires room { first + length text.now < 2 ^ 64 }
+    requires marked { AreMarked found.old.marks.items (names_seen found.old.names) }
+    ensures { IsChecked S.spelled (L.sets labels.now) first (more_lines text.now) (names_seen found.old.names) (names_seen found.new.names) result }
 {
     let mut tokens = Vec::new(alloc);
     let mut tapes = Tapes::new(alloc);
-    let mut marks = match no_marks(alloc, text.len().min(MOST_MARKS)) {
-        Ok(marks) => marks,
-        Err(e) => return Err(DautFault::Memory(e)),
-    };
     let mut outside = None;
     let mut number = first;
     let mut rest = text;
     while !rest.is_empty() {
         let (line, after) = cut_line(rest);
-        let found = match check_line::<L, S>(
-            alloc,
-            labels,
-            &mut tapes,
-            &mut tokens,
-            line,
-            names,
-            &mut marks,
-        ) {
-            Ok(Judged::Good(found)) => found,
+        let label = match check_line::<L, S>(alloc, labels, &mut tapes, &mut tokens, line, found) {
+            Ok(Judged::Good(label)) => label,
             Ok(Judged::Bad) => return Err(DautFault::Syntax { line: number }),
             Err(e) => return Err(DautFault::Memory(e)),
         };
-        outside = first_outside(outside, number, found);
+        outside = first_outside(outside, number, label);
         rest = after;
         number += 1;
     }

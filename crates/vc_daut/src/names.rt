@@ -1,4 +1,4 @@
-ghost use Rattle.std.specs.Prelude.{◌≡◌, ◌<◌, ◌≤◌, ℕ, true, false, slice_index_or, All, IfOk, OnOk, length, map};
+ghost use Rattle.std.specs.Prelude.{◌≡◌, ◌<◌, ◌≤◌, [], ℕ, true, false, slice_index_or, All, IfOk, OnOk, length, map};
 ghost use Rattle.vc_model.specs.Lists.{In, NoRepeat};
 ghost use Rattle.std.specs.List.{list_all};
 ghost use Rattle.vc_daut.specs.Names.{is_digit, has_no_zero_in_front, is_number, value_of, line_names, with_name, with_names, AreInOrder, AreMarked, AreNumbers};
@@ -53,6 +53,9 @@ pub type Keyed<'t> = (u64, Vec<u8>, &'t [u8]);
 /// A number of 1 to 18 digits is below it.
 const NO_NUMBER: u64 = 1_000_000_000_000_000_000;
 
+/// A number of a state below it is marked once it is found.
+const MOST_MARKS: usize = 1_000_000;
+
 fn are_digits(name: &[u8]) -> bool
     ensures { result ≡ list_all is_digit name.now }
 {
@@ -98,72 +101,80 @@ fn key_of(alloc: Global, name: &[u8]) -> Result<(u64, Vec<u8>), AllocError>
     Ok((NO_NUMBER, text))
 }
 
-/// Adds the names of the states of a line.
-pub(crate) fn add_names<'t>(
-    names: &mut Names<'t>,
-    marks: &mut Vec<bool>,
-    line: &Line<'_, 't>,
-) -> Result<(), AllocError>
-    requires { AreMarked marks.old.items (names_seen names.old) }
-    ensures names { OnOk result (names_seen names.new ≡ with_names (names_seen names.old) (line_names (line_seen line.now))) }
-    ensures marked { OnOk result (AreMarked marks.new.items (names_seen names.new)) }
-{
-    match line {
-        Line::Blank => Ok(()),
-        Line::Initial(state, _) => add_state(names, marks, name_of(*state)),
-        Line::Final(state, _) => add_state(names, marks, name_of(*state)),
-        Line::State(state) => add_state(names, marks, name_of(*state)),
-        Line::Moves(from, to, _) => {
-            add_state(names, marks, name_of(*from))?;
-            add_state(names, marks, name_of(*to))
+/// The names that were found so far.
+#[derive(Drop)]
+pub(crate) struct Found<'t> {
+    pub(crate) names: Names<'t>,
+    /// The place of the value of a number is marked only where the number is among the names.
+    marks: Vec<bool>,
+}
+
+impl<'t> Found<'t> {
+    /// No name yet, of a text with so many bytes.
+    pub(crate) fn new(alloc: Global, bytes: usize) -> Result<Found<'t>, AllocError>
+        ensures names { IfOk result (λ f. names_seen f.names ≡ []) }
+        ensures marked { IfOk result (λ f. AreMarked f.marks.items (names_seen f.names)) }
+    {
+        let names = IndexSet::new(alloc);
+        let marks = no_marks(alloc, bytes.min(MOST_MARKS))?;
+        Ok(Found { names, marks })
+    }
+
+    /// Adds the names of the states of a line.
+    pub(crate) fn add_names(&mut self, line: &Line<'_, 't>) -> Result<(), AllocError>
+        requires { AreMarked self.old.marks.items (names_seen self.old.names) }
+        ensures names { OnOk result (names_seen self.new.names ≡ with_names (names_seen self.old.names) (line_names (line_seen line.now))) }
+        ensures marked { OnOk result (AreMarked self.new.marks.items (names_seen self.new.names)) }
+    {
+        match line {
+            Line::Blank => Ok(()),
+            Line::Initial(state, _) => self.add_state(name_of(*state)),
+            Line::Final(state, _) => self.add_state(name_of(*state)),
+            Line::State(state) => self.add_state(name_of(*state)),
+            Line::Moves(from, to, _) => {
+                self.add_state(name_of(*from))?;
+                self.add_state(name_of(*to))
+            }
         }
     }
-}
 
-/// Adds the name of a state.
-fn add_state<'t>(
-    names: &mut Names<'t>,
-    marks: &mut Vec<bool>,
-    name: &'t [u8],
-) -> Result<(), AllocError>
-    requires { AreMarked marks.old.items (names_seen names.old) }
-    ensures names { OnOk result (names_seen names.new ≡ with_name (names_seen names.old) name.now) }
-    ensures marked { OnOk result (AreMarked marks.new.items (names_seen names.new)) }
-{
-    if is_number(name) {
-        return add_number(names, marks, name);
+    /// Adds the name of a state.
+    fn add_state(&mut self, name: &'t [u8]) -> Result<(), AllocError>
+        requires { AreMarked self.old.marks.items (names_seen self.old.names) }
+        ensures names { OnOk result (names_seen self.new.names ≡ with_name (names_seen self.old.names) name.now) }
+        ensures marked { OnOk result (AreMarked self.new.marks.items (names_seen self.new.names)) }
+    {
+        if is_number(name) {
+            return self.add_number(name);
+        }
+        add_name(&mut self.names, name)?;
+        Ok(())
     }
-    add_name(names, name)?;
-    Ok(())
-}
 
-/// Adds a number, and marks the place of its value. Where this is marked, the number is there already.
-fn add_number<'t>(
-    names: &mut Names<'t>,
-    marks: &mut Vec<bool>,
-    name: &'t [u8],
-) -> Result<(), AllocError>
-    requires number { is_number name.now ≡ true }
-    requires marked { AreMarked marks.old.items (names_seen names.old) }
-    ensures names { OnOk result (names_seen names.new ≡ with_name (names_seen names.old) name.now) }
-    ensures marked { OnOk result (AreMarked marks.new.items (names_seen names.new)) }
-{
-    let value = value_of(name);
-    if value >= marks.len() as u64 {
-        add_name(names, name)?;
-        return Ok(());
+    /// Adds a number, and marks the place of its value. Where this is marked, the number is there already.
+    fn add_number(&mut self, name: &'t [u8]) -> Result<(), AllocError>
+        requires number { is_number name.now ≡ true }
+        requires marked { AreMarked self.old.marks.items (names_seen self.old.names) }
+        ensures names { OnOk result (names_seen self.new.names ≡ with_name (names_seen self.old.names) name.now) }
+        ensures marked { OnOk result (AreMarked self.new.marks.items (names_seen self.new.names)) }
+    {
+        let value = value_of(name);
+        if value >= self.marks.len() as u64 {
+            add_name(&mut self.names, name)?;
+            return Ok(());
+        }
+        let place = value as usize;
+        if self.marks[place] {
+            return Ok(());
+        }
+        add_name(&mut self.names, name)?;
+        self.marks[place] = true;
+        Ok(())
     }
-    let place = value as usize;
-    if marks[place] {
-        return Ok(());
-    }
-    add_name(names, name)?;
-    marks[place] = true;
-    Ok(())
 }
 
 /// So many places, of which none is marked.
-pub(crate) fn no_marks(alloc: Global, count: usize) -> Result<Vec<bool>, AllocError>
+fn no_marks(alloc: Global, count: usize) -> Result<Vec<bool>, AllocError>
     ensures { IfOk result (λ marks. (q : ℕ) → slice_index_or marks.items q false ≡ false) }
 {
     vec![in alloc; false; count]

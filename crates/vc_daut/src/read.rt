@@ -19,9 +19,8 @@ use crate::head::{Head, head_of};
 use crate::label::Tapes;
 use crate::line::line_of;
 use crate::lines::cut_line;
-use crate::names::{Numbering, in_order};
+use crate::names::{Found, Numbering, in_order};
 use crate::tokens::cut_tokens;
-use indexmap::IndexSet;
 use std::alloc::Global;
 use vc_aut::{Automaton, Builder, drafts_are_valid};
 use vc_label::LabelSet;
@@ -181,17 +180,20 @@ pub fn read_daut<L: LabelSet, S: Semiring>(
         Head::Blank(line) => return Err(DautFault::Syntax { line }),
         Head::Line(line, _, text) => (line + 1, text),
     };
-    let mut found = IndexSet::new(alloc);
+    let mut found = match Found::new(alloc, text.len()) {
+        Ok(found) => found,
+        Err(e) => return Err(DautFault::Memory(e)),
+    };
     if let Err(fault) = check_lines::<L, S>(alloc, &labels, text, line, &mut found) {
         return Err(fault);
     }
-    if found.len() as u64 > MOST_STATES {
+    if found.names.len() as u64 > MOST_STATES {
         return Err(DautFault::Limit(Limit {
             what: Measure::States,
             most: MOST_STATES,
         }));
     }
-    let numbering = match in_order(alloc, &found) {
+    let numbering = match in_order(alloc, &found.names) {
         Ok(numbering) => numbering,
         Err(e) => return Err(DautFault::Memory(e)),
     };

@@ -9,8 +9,8 @@ use Rattle.vc_daut.proofs.check.check_lines.Given as goal
 abbrev pub invariant-loop-rest : goal.invariant-loop-rest
 invariant-loop-rest g l =
     (l.number + length l.rest < 2 ^ 64)
-    × IsCheckedTo g.S.Semiring.spelled (g.L.LabelSet.sets l.labels) l.first (more_lines l.text) (names_seen l.initial.names) l.number (more_lines l.rest) (names_seen l.names) l.outside
-    × AreMarked l.marks.items (names_seen l.names)
+    × IsCheckedTo g.S.Semiring.spelled (g.L.LabelSet.sets l.labels) l.first (more_lines l.text) (names_seen l.initial.found.names) l.number (more_lines l.rest) (names_seen l.found.names) l.outside
+    × AreMarked l.found.marks.items (names_seen l.found.names)
 
 abbrev pub decreases-loop-rest : goal.decreases-loop-rest
 decreases-loop-rest g l = length l.rest

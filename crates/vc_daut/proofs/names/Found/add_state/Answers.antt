@@ -2,9 +2,9 @@ use Rattle.std.proofs.Common.{sym, subst}
 use Rattle.vc_daut.specs.Names.{AreMarked}
 use Rattle.vc_daut.specs.Views.{names_seen}
 use Rattle.vc_daut.proofs.Noted.{marked_kept}
-use Rattle.vc_daut.proofs.names.add_state.Goals as goal
+use Rattle.vc_daut.proofs.names.Found.add_state.Goals as goal
 
 pub returns-clause-marked : goal.returns-clause-marked
 returns-clause-marked c =
-    subst (AreMarked c.args.marks.now.items) (sym c.in_ok-add_name.ensures)
-    (marked_kept c.args.marks.now.items (names_seen c.args.names.now) c.args.name.now c.requires)
+    subst (AreMarked c.args.self.now.marks.items) (sym c.in_ok-add_name.ensures)
+    (marked_kept c.args.self.now.marks.items (names_seen c.args.self.now.names) c.args.name.now c.requires)
