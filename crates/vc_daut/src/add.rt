@@ -49,22 +49,28 @@ fn only<'t>(weight: &[Token<'t>]) -> Option<Token<'t>>
     }
 }
 
+/// A transition without its label.
+#[derive(Clone, Copy)]
+struct Arrow<V> {
+    from: u32,
+    to: u32,
+    weight: V,
+}
+
 /// Adds a transition with one letter.
 fn add_letter<L: LabelSet, S: Semiring>(
     alloc: Global,
     builder: &mut Builder<L, S>,
     labels: &L,
-    from: u32,
+    arrow: Arrow<S::Value>,
     letter: u8,
-    to: u32,
-    weight: S::Value,
 ) -> Result<(), MakeFault<S::Value>>
     requires sets { builder.old.sets ≡ L.sets labels.now }
     requires letter { IsOverSets (L.sets labels.now) ((letter ∷ []) ∷ []) }
-    requires from { from < builder.old.automaton.states }
-    requires to { to < builder.old.automaton.states }
-    requires weight { IsTrue (S.set.in_range weight) }
-    ensures answer { IsAdded S.set S.spelled S.numbers_fit [] builder.old (moves_with from to weight ((letter ∷ []) ∷ []) ∷ []) builder.new result }
+    requires from { arrow.from < builder.old.automaton.states }
+    requires to { arrow.to < builder.old.automaton.states }
+    requires weight { IsTrue (S.set.in_range arrow.weight) }
+    ensures answer { IsAdded S.set S.spelled S.numbers_fit [] builder.old (moves_with arrow.from arrow.to arrow.weight ((letter ∷ []) ∷ []) ∷ []) builder.new result }
     ensures kept { OnOk result (KeepsShape builder.old builder.new) }
 {
     words_are_over_sets();
@@ -73,7 +79,7 @@ fn add_letter<L: LabelSet, S: Semiring>(
         Err(LabelFault::NotHere) => unreachable!(),
         Err(LabelFault::Memory(e)) => return Err(MakeFault::Memory(e)),
     };
-    builder.add_transition(from, label, to, weight)
+    builder.add_transition(arrow.from, label, arrow.to, arrow.weight)
 }
 
 /// Adds a transition with a letter, if the class has it.
@@ -82,49 +88,43 @@ fn add_letter_of<L: LabelSet, S: Semiring>(
     builder: &mut Builder<L, S>,
     labels: &L,
     class: &Class,
-    from: u32,
+    arrow: Arrow<S::Value>,
     letter: u8,
-    to: u32,
-    weight: S::Value,
 ) -> Result<(), MakeFault<S::Value>>
     requires sets { builder.old.sets ≡ L.sets labels.now }
     requires class { class_has class.now letter ≡ true → IsOverSets (L.sets labels.now) ((letter ∷ []) ∷ []) }
-    requires from { from < builder.old.automaton.states }
-    requires to { to < builder.old.automaton.states }
-    requires weight { IsTrue (S.set.in_range weight) }
-    ensures answer { IsAdded S.set S.spelled S.numbers_fit [] builder.old (given_at class.now from to weight letter) builder.new result }
+    requires from { arrow.from < builder.old.automaton.states }
+    requires to { arrow.to < builder.old.automaton.states }
+    requires weight { IsTrue (S.set.in_range arrow.weight) }
+    ensures answer { IsAdded S.set S.spelled S.numbers_fit [] builder.old (given_at class.now arrow.from arrow.to arrow.weight letter) builder.new result }
     ensures kept { OnOk result (KeepsShape builder.old builder.new) }
 {
     if class.has(letter) {
-        add_letter(alloc, builder, labels, from, letter, to, weight)
+        add_letter(alloc, builder, labels, arrow, letter)
     } else {
         Ok(())
     }
 }
 
-/// Adds transitions from a state to a state, one for each letter of the class.
+/// Adds a transition for each letter of the class.
 fn add_class<L: LabelSet, S: Semiring>(
     alloc: Global,
     builder: &mut Builder<L, S>,
     labels: &L,
-    from: u32,
+    arrow: Arrow<S::Value>,
     body: &[u8],
-    to: u32,
-    weight: S::Value,
 ) -> Result<(), MakeFault<S::Value>>
     requires sets { builder.old.sets ≡ L.sets labels.now }
     requires class { IsClassOver (L.sets labels.now) body.now }
-    requires from { from < builder.old.automaton.states }
-    requires to { to < builder.old.automaton.states }
-    requires weight { IsTrue (S.set.in_range weight) }
-    ensures answer { IsAdded S.set S.spelled S.numbers_fit [] builder.old (map (moves_with from to weight) (class_words (L.sets labels.now) body.now)) builder.new result }
+    requires from { arrow.from < builder.old.automaton.states }
+    requires to { arrow.to < builder.old.automaton.states }
+    requires weight { IsTrue (S.set.in_range arrow.weight) }
+    ensures answer { IsAdded S.set S.spelled S.numbers_fit [] builder.old (map (moves_with arrow.from arrow.to arrow.weight) (class_words (L.sets labels.now) body.now)) builder.new result }
     ensures kept { OnOk result (KeepsShape builder.old builder.new) }
 {
     let class = Class::new(labels.tape(0).alphabet, body);
     for letter in 0x21..0x7f {
-        if let Err(fault) = add_letter_of(
-            alloc, builder, labels, &class, from, letter, to, weight,
-        ) {
+        if let Err(fault) = add_letter_of(alloc, builder, labels, &class, arrow, letter) {
             return Err(fault);
         }
     }
@@ -137,18 +137,16 @@ fn add_parts<L: LabelSet, S: Semiring>(
     builder: &mut Builder<L, S>,
     labels: &L,
     tapes: &mut Tapes,
-    from: u32,
+    arrow: Arrow<S::Value>,
     parts: &[Token<'_>],
-    to: u32,
-    weight: S::Value,
 ) -> Result<(), MakeFault<S::Value>>
     requires sets { builder.old.sets ≡ L.sets labels.now }
     requires parts { are_parts (map seen parts.now) ≡ true }
     requires over { IsOverSets (L.sets labels.now) (parts_word (map seen parts.now)) }
-    requires from { from < builder.old.automaton.states }
-    requires to { to < builder.old.automaton.states }
-    requires weight { IsTrue (S.set.in_range weight) }
-    ensures answer { IsAdded S.set S.spelled S.numbers_fit [] builder.old (moves_with from to weight (parts_word (map seen parts.now)) ∷ []) builder.new result }
+    requires from { arrow.from < builder.old.automaton.states }
+    requires to { arrow.to < builder.old.automaton.states }
+    requires weight { IsTrue (S.set.in_range arrow.weight) }
+    ensures answer { IsAdded S.set S.spelled S.numbers_fit [] builder.old (moves_with arrow.from arrow.to arrow.weight (parts_word (map seen parts.now)) ∷ []) builder.new result }
     ensures kept { OnOk result (KeepsShape builder.old builder.new) }
 {
     let label = match parts_label(alloc, labels, tapes, parts) {
@@ -156,7 +154,7 @@ fn add_parts<L: LabelSet, S: Semiring>(
         Ok(None) => unreachable!(),
         Err(e) => return Err(MakeFault::Memory(e)),
     };
-    builder.add_transition(from, label, to, weight)
+    builder.add_transition(arrow.from, label, arrow.to, arrow.weight)
 }
 
 /// Adds the transitions of an entry.
@@ -180,11 +178,12 @@ fn add_entry<L: LabelSet, S: Semiring>(
 {
     let entry = entry_of(tokens);
     let weight = weight_of::<S>(entry.weight)?;
+    let arrow = Arrow { from, to, weight };
     if is_class(entry.label) {
         let body = class_body(entry.label);
-        return add_class(alloc, builder, labels, from, body, to, weight);
+        return add_class(alloc, builder, labels, arrow, body);
     }
-    add_parts(alloc, builder, labels, tapes, from, entry.label, to, weight)
+    add_parts(alloc, builder, labels, tapes, arrow, entry.label)
 }
 
 /// Adds the transitions of entries with commas between them.
