@@ -1,19 +1,19 @@
-ghost use Rattle.std.specs.Prelude.{◌≡◌, ◌<◌, ◌≤◌, ◌∷◌, [], ℕ, List, length, map, option_to_list, true, IfOk, IsTrue, OnOk};
+ghost use Rattle.std.specs.Prelude.{◌≡◌, ◌<◌, ◌∷◌, [], ℕ, List, length, map, option_to_list, true, IfOk, IsTrue, OnOk};
 ghost use Rattle.std.specs.Option.{option_map};
 ghost use Rattle.vc_daut.specs.Building.{IsAdded, IsWeightAnswer, KeepsShape, entry_weights, line_weights};
 ghost use Rattle.vc_daut.specs.Classes.{class_has, given_at};
-ghost use Rattle.vc_daut.specs.Grammar.{are_parts, entries_of, entry_label, entry_weight, has_labels, have_labels, is_label, name_of};
+ghost use Rattle.vc_daut.specs.Grammar.{are_parts, entries_of, entry_label, entry_weight, has_labels, have_labels, is_label};
 ghost use Rattle.vc_daut.specs.Labels.{IsClassOver, IsLabelOver, class_words, parts_word};
 ghost use Rattle.vc_daut.specs.Meaning.{begins, ends, given_by, given_by_entry, given_by_entries, moves_with, number_of, only, weight_of};
-ghost use Rattle.vc_daut.specs.Names.{AreNumbers, line_names};
+ghost use Rattle.vc_daut.specs.Names.{line_names};
 ghost use Rattle.vc_daut.specs.Spelling.{AreEntriesOver, IsLineOver};
-ghost use Rattle.vc_daut.specs.Views.{seen, line_seen, names_seen};
+ghost use Rattle.vc_daut.specs.Views.{seen, line_seen};
 ghost use Rattle.vc_label.specs.Sets.{IsOverSets};
 ghost use Rattle.vc_model.specs.Lists.{In};
 
 use crate::class::Class;
 use crate::label::{Tapes, parts_label};
-use crate::line::{Line, class_body, cut_entry, entry_of, inside, is_class, name_of};
+use crate::line::{Line, class_body, cut_entry, entry_of, inside, is_class};
 use crate::names::Numbering;
 use std::alloc::Global;
 use std::slice;
@@ -260,13 +260,12 @@ pub(crate) fn add_line<L: LabelSet, S: Semiring>(
     line: &Line<'_, '_>,
 ) -> Result<(), MakeFault<S::Value>>
     requires sets { builder.old.sets ≡ L.sets labels.now }
-    requires states { builder.old.automaton.states ≡ length (names_seen numbering.now.names) }
-    requires named { (a : List ℕ) → In a (line_names (line_seen line.now)) → In a (names_seen numbering.now.names) }
-    requires places { numbering.now.are_places ≡ true → AreNumbers 0 (names_seen numbering.now.names) }
+    requires states { builder.old.automaton.states ≡ length numbering.now }
+    requires named { (a : List ℕ) → In a (line_names (line_seen line.now)) → In a numbering.now }
     requires labels { has_labels (line_seen line.now) ≡ true }
     requires over { IsLineOver (L.sets labels.now) (line_seen line.now) }
     ensures answer { IsAdded S.set S.spelled S.numbers_fit (line_weights (line_seen line.now)) builder.old
-        (given_by S.set S.spelled (L.sets labels.now) (number_of (names_seen numbering.now.names)) (line_seen line.now)) builder.new result }
+        (given_by S.set S.spelled (L.sets labels.now) (number_of numbering.now) (line_seen line.now)) builder.new result }
     ensures kept { OnOk result (KeepsShape builder.old builder.new) }
 {
     drafts_are_valid(builder);

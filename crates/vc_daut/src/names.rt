@@ -1,4 +1,4 @@
-ghost use Rattle.std.specs.Prelude.{◌≡◌, ◌<◌, ◌≤◌, [], ℕ, true, false, slice_index_or, All, IfOk, OnOk, length, map};
+ghost use Rattle.std.specs.Prelude.{◌≡◌, ◌<◌, ◌≤◌, [], ℕ, List, true, false, slice_index_or, All, IfOk, OnOk, length, map};
 ghost use Rattle.vc_model.specs.Lists.{In, NoRepeat};
 ghost use Rattle.std.specs.List.{list_all};
 ghost use Rattle.vc_daut.specs.Names.{is_digit, has_no_zero_in_front, is_number, value_of, line_names, with_name, with_names, AreInOrder, AreMarked, AreNumbers};
@@ -11,6 +11,7 @@ use crate::label::unescape;
 use crate::line::{Line, name_of};
 use indexmap::IndexSet;
 use std::alloc::{AllocError, Global};
+use std::marker::Model;
 use vc_lex::Token;
 
 /// The names of states, each once; a name is written as it stands in double quotes.
@@ -19,19 +20,33 @@ pub(crate) type Names<'t> = IndexSet<&'t [u8]>;
 /// The names of states in their order, where the number of a state is the place of its name.
 #[derive(Drop)]
 pub(crate) struct Numbering<'t> {
-    pub(crate) names: Names<'t>,
+    names: Names<'t>,
     /// Only where it is true, each name is the number of its place, and needs no look-up.
     are_places: bool,
 }
 
+impl<'t> Model for Numbering<'t> {
+    ghost Value = { List (List ℕ) };
+
+    ghost view = { λ n. names_seen n.names };
+
+    ghost invariant = { λ n. n.are_places ≡ true → AreNumbers 0 (names_seen n.names) };
+}
+
 impl<'t> Numbering<'t> {
+    /// The number of states.
+    pub(crate) fn states(&self) -> usize
+        ensures { result ≡ length self.now }
+    {
+        self.names.len()
+    }
+
     /// The number of a state that has a name among these.
     pub(crate) fn number(&self, state: Token<'_>) -> u32
-        requires named { In (name_of (seen state)) (names_seen self.now.names) }
-        requires few { length (names_seen self.now.names) ≤ 1000000 }
-        requires places { self.now.are_places ≡ true → AreNumbers 0 (names_seen self.now.names) }
-        ensures value { result ≡ number_of (names_seen self.now.names) (name_of (seen state.entry)) }
-        ensures below { result < length (names_seen self.now.names) }
+        requires named { In (name_of (seen state)) self.now }
+        requires few { length self.now ≤ 1000000 }
+        ensures value { result ≡ number_of self.now (name_of (seen state.entry)) }
+        ensures below { result < length self.now }
     {
         let name = name_of(state);
         if self.are_places {
@@ -205,9 +220,8 @@ fn keyed<'t>(alloc: Global, found: &[&'t [u8]]) -> Result<Vec<Keyed<'t>>, AllocE
 /// The names in their order.
 pub(crate) fn in_order<'t>(alloc: Global, found: &Names<'t>) -> Result<Numbering<'t>, AllocError>
     requires { NoRepeat (names_seen found.now) }
-    ensures order { IfOk result (λ n. AreInOrder (names_seen found.now) (names_seen n.names)) }
-    ensures count { IfOk result (λ n. length (names_seen n.names) ≡ length (names_seen found.now)) }
-    ensures places { IfOk result (λ n. n.are_places ≡ true → AreNumbers 0 (names_seen n.names)) }
+    ensures order { IfOk result (λ n. AreInOrder (names_seen found.now) n) }
+    ensures count { IfOk result (λ n. length n ≡ length (names_seen found.now)) }
 {
     let mut keyed = keyed(alloc, found.as_slice())?;
     keyed.sort()?;

@@ -6,10 +6,9 @@ ghost use Rattle.vc_daut.specs.Answers.{IsBuiltBy, IsReadBehind};
 ghost use Rattle.vc_daut.specs.Heads.{HeadLine, head_line};
 ghost use Rattle.vc_daut.specs.Lines.{lines_of, more_lines};
 ghost use Rattle.vc_daut.specs.Meaning.{given_by, number_of};
-ghost use Rattle.vc_daut.specs.Names.{AreNumbers, line_names};
+ghost use Rattle.vc_daut.specs.Names.{line_names};
 ghost use Rattle.vc_daut.specs.Passes.{AreAdded, IsWant, fault_at, with_states};
 ghost use Rattle.vc_daut.specs.Spelling.{AreOver, IsLineOver, line_in, lines_in};
-ghost use Rattle.vc_daut.specs.Views.{names_seen};
 ghost use Rattle.vc_model.specs.Lists.{In};
 
 use crate::add::add_line;
@@ -50,12 +49,11 @@ fn add_text<'t, L: LabelSet, S: Semiring>(
     text: &'t [u8],
 ) -> Result<(), MakeFault<S::Value>>
     requires sets { builder.old.sets ≡ L.sets labels.now }
-    requires states { builder.old.automaton.states ≡ length (names_seen numbering.now.names) }
-    requires named { (a : List ℕ) → In a (line_names (line_in S.spelled text.now)) → In a (names_seen numbering.now.names) }
-    requires places { numbering.now.are_places ≡ true → AreNumbers 0 (names_seen numbering.now.names) }
+    requires states { builder.old.automaton.states ≡ length numbering.now }
+    requires named { (a : List ℕ) → In a (line_names (line_in S.spelled text.now)) → In a numbering.now }
     requires over { IsLineOver (L.sets labels.now) (line_in S.spelled text.now) }
     ensures answer { IsAdded S.set S.spelled S.numbers_fit (line_weights (line_in S.spelled text.now)) builder.old
-        (given_by S.set S.spelled (L.sets labels.now) (number_of (names_seen numbering.now.names)) (line_in S.spelled text.now)) builder.new result }
+        (given_by S.set S.spelled (L.sets labels.now) (number_of numbering.now) (line_in S.spelled text.now)) builder.new result }
     ensures kept { OnOk result (KeepsShape builder.old builder.new) }
 {
     match cut_tokens(text, tokens) {
@@ -80,12 +78,11 @@ fn add_lines<L: LabelSet, S: Semiring>(
 ) -> Result<(), DautFault<S::Value>>
     requires room { first + length text.now < 2 ^ 64 }
     requires sets { builder.old.sets ≡ L.sets labels.now }
-    requires states { builder.old.automaton.states ≡ length (names_seen numbering.now.names) }
-    requires named { (a : List ℕ) → In a (flat_map line_names (lines_in S.spelled (more_lines text.now))) → In a (names_seen numbering.now.names) }
-    requires places { numbering.now.are_places ≡ true → AreNumbers 0 (names_seen numbering.now.names) }
+    requires states { builder.old.automaton.states ≡ length numbering.now }
+    requires named { (a : List ℕ) → In a (flat_map line_names (lines_in S.spelled (more_lines text.now))) → In a numbering.now }
     requires over { AreOver (L.sets labels.now) (lines_in S.spelled (more_lines text.now)) }
     ensures kept { OnOk result (KeepsShape builder.old builder.new) }
-    ensures answer { AreAdded S.set S.spelled S.numbers_fit (given_by S.set S.spelled (L.sets labels.now) (number_of (names_seen numbering.now.names)))
+    ensures answer { AreAdded S.set S.spelled S.numbers_fit (given_by S.set S.spelled (L.sets labels.now) (number_of numbering.now))
         first (lines_in S.spelled (more_lines text.now)) builder.old builder.new result }
 {
     let mut tokens = Vec::new(alloc);
@@ -137,16 +134,15 @@ fn build<L: LabelSet, S: Semiring>(
     first: u64,
 ) -> Result<Automaton<L, S>, DautFault<S::Value>>
     requires room { first + length text.now < 2 ^ 64 }
-    requires few { length (names_seen numbering.now.names) ≤ 1000000 }
-    requires named { (a : List ℕ) → In a (flat_map line_names (lines_in S.spelled (more_lines text.now))) → In a (names_seen numbering.now.names) }
-    requires places { numbering.now.are_places ≡ true → AreNumbers 0 (names_seen numbering.now.names) }
+    requires few { length numbering.now ≤ 1000000 }
+    requires named { (a : List ℕ) → In a (flat_map line_names (lines_in S.spelled (more_lines text.now))) → In a numbering.now }
     requires over { AreOver (L.sets labels) (lines_in S.spelled (more_lines text.now)) }
-    ensures answer { IsBuiltBy S.set S.Value.eq S.spelled S.numbers_fit (L.sets labels) first (lines_in S.spelled (more_lines text.now)) (names_seen numbering.now.names) result }
+    ensures answer { IsBuiltBy S.set S.Value.eq S.spelled S.numbers_fit (L.sets labels) first (lines_in S.spelled (more_lines text.now)) numbering.now result }
     ensures sets { IfOk result (λ a. a.sets ≡ L.sets labels) }
     ensures states { IfOk result (λ a. a.automaton.states ≤ 1000000) }
 {
     let mut builder = Builder::new(alloc, labels, MOST_STATES);
-    if let Err(fault) = add_states(&mut builder, numbering.names.len()) {
+    if let Err(fault) = add_states(&mut builder, numbering.states()) {
         return Err(fault_at(first, fault));
     }
     if let Err(fault) = add_lines(alloc, &mut builder, &labels, numbering, text, first) {

@@ -4,7 +4,7 @@ use Rattle.vc_daut.specs.Building.{IsAdded, entry_weights, line_weights}
 use Rattle.vc_daut.specs.Grammar.{entries_of, name_of}
 use Rattle.vc_daut.specs.Meaning.{given_by, given_by_entries, number_of}
 use Rattle.vc_daut.specs.Names.{line_names}
-use Rattle.vc_daut.specs.Views.{seen, line_seen, names_seen}
+use Rattle.vc_daut.specs.Views.{seen, line_seen}
 use Rattle.vc_daut.proofs.add.add_line.Goals as goal
 
 pub number-requires-clause-named : goal.number-requires-clause-named
@@ -25,7 +25,7 @@ returns-in-Moves-clause-answer g c =
     let spelled = g.S.Semiring.spelled in
     let fit = g.S.Semiring.numbers_fit in
     let sets = g.L.LabelSet.sets c.args.labels.now in
-    let names = names_seen c.args.numbering.now.names in
+    let names = c.args.numbering.now in
     let es = entries_of (map seen c.in-Moves.entries.now) in
     subst (λ l. IsAdded R spelled fit (line_weights (line_seen l)) c.args.builder.now (given_by R spelled sets (number_of names) (line_seen l)) c.add_entries.new.builder c.add_entries.result) (sym c.in-Moves.is)
     (subst (λ n. IsAdded R spelled fit (entry_weights es) c.args.builder.now (given_by_entries R spelled sets n (number_of names (name_of (seen c.in-Moves.to))) es) c.add_entries.new.builder c.add_entries.result) c.number-from.ensures.value

@@ -6,7 +6,6 @@ use Rattle.vc_daut.specs.Meaning.{given_by, number_of}
 use Rattle.vc_daut.specs.Names.{line_names}
 use Rattle.vc_daut.specs.Passes.{AreAdded, fault_at}
 use Rattle.vc_daut.specs.Spelling.{AreOver, line_in, lines_in}
-use Rattle.vc_daut.specs.Views.{names_seen}
 use Rattle.vc_daut.proofs.Gained.{in_front, in_back}
 use Rattle.vc_daut.proofs.Summed.{line_more, line_refused, some_lines, no_lines}
 use Rattle.vc_daut.proofs.read.add_lines.Goals as goal
@@ -23,7 +22,7 @@ returns-in-Err-clause-answer g c =
     let R = g.S.Semiring.set in
     let spelled = g.S.Semiring.spelled in
     let fit = g.S.Semiring.numbers_fit in
-    let given = given_by R spelled (g.L.LabelSet.sets c.args.labels.now) (number_of (names_seen c.args.numbering.now.names)) in
+    let given = given_by R spelled (g.L.LabelSet.sets c.args.labels.now) (number_of c.args.numbering.now) in
     let p : 0 < length c.loop-rest.rest.now = search rules in
     let w : more_lines c.loop-rest.rest.now ≡ c.cut_line.result.0.now ∷ more_lines c.cut_line.result.1.now = some_lines c.loop-rest.rest.now p ∙ c.cut_line.ensures.lines in
     c.loop-rest.invariant.1 c.add_text.new.builder (Err c.fault_at.result)
@@ -37,7 +36,7 @@ loop-rest-preserved g c =
     let spelled = g.S.Semiring.spelled in
     let fit = g.S.Semiring.numbers_fit in
     let sets = g.L.LabelSet.sets c.args.labels.now in
-    let given = given_by R spelled sets (number_of (names_seen c.args.numbering.now.names)) in
+    let given = given_by R spelled sets (number_of c.args.numbering.now) in
     let p : 0 < length c.loop-rest.rest.now = search rules in
     let w : more_lines c.loop-rest.rest.now ≡ c.cut_line.result.0.now ∷ more_lines c.cut_line.result.1.now = some_lines c.loop-rest.rest.now p ∙ c.cut_line.ensures.lines in
     let k = c.in_default.ensures.kept in
@@ -57,7 +56,7 @@ returns-clause-answer g c =
     let R = g.S.Semiring.set in
     let spelled = g.S.Semiring.spelled in
     let fit = g.S.Semiring.numbers_fit in
-    let given = given_by R spelled (g.L.LabelSet.sets c.args.labels.now) (number_of (names_seen c.args.numbering.now.names)) in
+    let given = given_by R spelled (g.L.LabelSet.sets c.args.labels.now) (number_of c.args.numbering.now) in
     let z : length c.loop-rest.rest.now ≡ 0 = search rules in
     c.loop-rest.invariant.1 c.loop-rest.builder (Ok tt)
     (subst (λ ts. AreAdded R spelled fit given c.loop-rest.number (lines_in spelled ts) c.loop-rest.builder c.loop-rest.builder (Ok tt)) (sym (no_lines c.loop-rest.rest.now z)) (refl, tt, (λ m h. absurd h)))

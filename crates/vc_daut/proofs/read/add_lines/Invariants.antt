@@ -6,7 +6,6 @@ use Rattle.vc_daut.specs.Lines.{more_lines}
 use Rattle.vc_daut.specs.Meaning.{given_by, number_of}
 use Rattle.vc_daut.specs.Names.{line_names}
 use Rattle.vc_daut.specs.Spelling.{AreOver, lines_in}
-use Rattle.vc_daut.specs.Views.{names_seen}
 use Rattle.vc_daut.proofs.Summed.{LeadLines}
 use Rattle.vc_daut.proofs.read.add_lines.Given as goal
 
@@ -16,11 +15,11 @@ invariant-loop-rest g l =
     let spelled = g.S.Semiring.spelled in
     let sets = g.L.LabelSet.sets l.labels in
     (l.number + length l.rest < 2 ^ 64)
-    × LeadLines g.S.Semiring.set spelled g.S.Semiring.numbers_fit (given_by g.S.Semiring.set spelled sets (number_of (names_seen l.numbering.names)))
+    × LeadLines g.S.Semiring.set spelled g.S.Semiring.numbers_fit (given_by g.S.Semiring.set spelled sets (number_of l.numbering))
     l.number (lines_in spelled (more_lines l.rest)) l.builder l.first (lines_in spelled (more_lines l.text)) l.initial.builder
     × KeepsShape l.initial.builder l.builder
     × AreOver sets (lines_in spelled (more_lines l.rest))
-    × ((a : List ℕ) → In a (flat_map line_names (lines_in spelled (more_lines l.rest))) → In a (names_seen l.numbering.names))
+    × ((a : List ℕ) → In a (flat_map line_names (lines_in spelled (more_lines l.rest))) → In a l.numbering)
 
 abbrev pub decreases-loop-rest : goal.decreases-loop-rest
 decreases-loop-rest g l = length l.rest

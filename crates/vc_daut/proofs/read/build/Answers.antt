@@ -1,22 +1,20 @@
 use Rattle.std.proofs.Common.{◌∙◌, ap, arith}
-use Rattle.std.proofs.lemmas.List.{length-map}
 use Rattle.vc_daut.proofs.Stated.{states_sets, states_count}
 use Rattle.vc_daut.proofs.read.build.Goals as goal
 
 pub add_lines-requires-clause-sets : goal.add_lines-requires-clause-sets
 add_lines-requires-clause-sets g c =
-    ap (λ d. d.sets) c.in_default.ensures.ok ∙ states_sets g.S.Semiring.set c.len.result c.new-builder.result ∙ ap (λ d. d.sets) c.new-builder.ensures
+    ap (λ d. d.sets) c.in_default.ensures.ok ∙ states_sets g.S.Semiring.set c.states.result c.new-builder.result ∙ ap (λ d. d.sets) c.new-builder.ensures
 
 pub add_lines-requires-clause-states : goal.add_lines-requires-clause-states
 add_lines-requires-clause-states g c =
     let e = ap (λ d. d.automaton.states) c.in_default.ensures.ok in
-    let s = states_count g.S.Semiring.set c.len.result c.new-builder.result in
+    let s = states_count g.S.Semiring.set c.states.result c.new-builder.result in
     let z = ap (λ d. d.automaton.states) c.new-builder.ensures in
-    let l = c.len.ensures.len in
-    let m = length-map c.args.numbering.now.names.keys (λ b. b.now) in
-    omega (arith, e, s, z, l, m)
+    let l = c.states.ensures in
+    omega (arith, e, s, z, l)
 
 pub returns-in-Ok-clause-sets : goal.returns-in-Ok-clause-sets
 returns-in-Ok-clause-sets g c =
     ap (λ a. a.sets) c.in-Ok.ensures ∙ c.in_default-add_lines.ensures.kept.sets
-    ∙ ap (λ d. d.sets) c.in_default.ensures.ok ∙ states_sets g.S.Semiring.set c.len.result c.new-builder.result ∙ ap (λ d. d.sets) c.new-builder.ensures
+    ∙ ap (λ d. d.sets) c.in_default.ensures.ok ∙ states_sets g.S.Semiring.set c.states.result c.new-builder.result ∙ ap (λ d. d.sets) c.new-builder.ensures

@@ -22,7 +22,7 @@ pub build-requires-clause-named : goal.build-requires-clause-named
 build-requires-clause-named g c a i =
     let raw = flat_map line_names (lines_in g.S.Semiring.spelled (more_lines c.in-Line.text.now)) in
     let z : names_seen c.in-Ok.found.names ≡ [] = c.in-Ok.ensures.names in
-    ((names_found raw (names_seen c.check_lines.new.found.names) (names_seen c.in-Ok-in_order.numbering.names) (c.in_default.ensures.2 ∙ ap (λ o. with_names o raw) z) c.in-Ok-in_order.ensures.order).named a).1 i
+    ((names_found raw (names_seen c.check_lines.new.found.names) c.in-Ok-in_order.numbering (c.in_default.ensures.2 ∙ ap (λ o. with_names o raw) z) c.in-Ok-in_order.ensures.order).named a).1 i
 
 pub returns-clause-behind : goal.returns-clause-behind
 returns-clause-behind g c h k =
@@ -33,10 +33,10 @@ returns-clause-behind g c h k =
     let l = c.len.ensures.len in
     let m = length-map c.check_lines.new.found.names.keys (λ b. b.now) in
     let small = c.if-len-gt-MOST_STATES.false in
-    let few : length (names_seen c.in-Ok-in_order.numbering.names) ≤ 1000000 = omega (arith, count, l, m, small) in
+    let few : length c.in-Ok-in_order.numbering ≤ 1000000 = omega (arith, count, l, m, small) in
     subst (λ x. IsReadBehind g.S.Semiring.set g.S.Value.PartialEq.eq g.S.Semiring.spelled g.S.Semiring.numbers_fit (g.L.LabelSet.sets c.args.labels) x c.build.result)
     (head_is head h _ c.in-Line.ensures.0 k)
-    (build_answer g.S.Semiring.set g.S.Value.PartialEq.eq g.S.Semiring.spelled g.S.Semiring.numbers_fit (g.L.LabelSet.sets c.args.labels) head (names_seen c.in-Ok-in_order.numbering.names) c.build.result
+    (build_answer g.S.Semiring.set g.S.Value.PartialEq.eq g.S.Semiring.spelled g.S.Semiring.numbers_fit (g.L.LabelSet.sets c.args.labels) head c.in-Ok-in_order.numbering c.build.result
     c.in_default.ensures.0 c.in_default.ensures.1 few
-    (names_found raw (names_seen c.check_lines.new.found.names) (names_seen c.in-Ok-in_order.numbering.names) (c.in_default.ensures.2 ∙ ap (λ o. with_names o raw) z) c.in-Ok-in_order.ensures.order)
+    (names_found raw (names_seen c.check_lines.new.found.names) c.in-Ok-in_order.numbering (c.in_default.ensures.2 ∙ ap (λ o. with_names o raw) z) c.in-Ok-in_order.ensures.order)
     c.build.ensures.answer)
