@@ -23,3 +23,11 @@ pub record TextLaws {V : Type 0} (R : WeightSet V) (spelled : List ℕ → Optio
   pub written : (v : V) → IsTrue (R.in_range v) → spelled (canonical v) ≡ Some v
   pub written_fits : (v : V) → IsTrue (R.in_range v) → IsTrue (numbers_fit (canonical v))
   pub bytes : (v : V) → All IsWeightByte (canonical v)
+
+-- a weight set, the test of equality of its elements, and their texts: what a text spells, whether its numbers are in their ranges, and the canonical text
+pub record WeightTexts (V : Type 0) : Type 0 where
+  pub set : WeightSet V
+  pub same : V → V → Bool
+  pub spelled : List ℕ → Option V
+  pub numbers_fit : List ℕ → Bool
+  pub canonical : V → List ℕ

@@ -5,8 +5,10 @@ mod faults;
 mod field;
 mod semiring;
 mod sums;
+mod weighed;
 
 pub use faults::{Limit, MakeFault, Measure, NumberFault, Overflow, StarFault, SumFault};
 pub use field::{Field, Split};
 pub use semiring::Semiring;
 pub use sums::sum;
+pub use weighed::Weighed;
