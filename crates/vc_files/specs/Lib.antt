@@ -1,4 +1,5 @@
 pub mod Files
+pub mod Pieces
 pub mod Reading
 pub mod Sink
 pub mod MemFile

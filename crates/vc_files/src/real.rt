@@ -1,6 +1,7 @@
-ghost use Rattle.std.specs.Prelude.{◌≡◌, ◌≤◌, ◌<◌, ◌+◌, ◌∷◌, [], ℕ, None, length, IfOk, IsErrOf, OnOk};
-ghost use Rattle.std.specs.Io.KnownBytes.{Appends};
+ghost use Rattle.std.specs.Prelude.{◌≡◌, ◌≤◌, ◌<◌, ◌+◌, ◌∷◌, [], ℕ, None, length, false, IfOk, IsErrOf, OnOk};
+ghost use Rattle.std.specs.Io.KnownBytes.{Appends, Consumes, IsAtEnd};
 ghost use Rattle.vc_files.specs.Files.{Bytes, Tells, Shows, Grows, Added};
+ghost use Rattle.vc_files.specs.Pieces.{IsMore};
 ghost use Rattle.vc_files.specs.Reading.{IsUnfailed, Brings, Records};
 ghost use Rattle.vc_files.specs.Sink.{HasCause, Counts};
 
@@ -33,16 +34,76 @@ impl<'r, R: std::rt::Files> RealFiles<'r, R> {
     }
 }
 
+/// How many bytes are asked for at once.
+const PIECE: usize = 8192;
+
+/// One read, whose bytes are appended; whether more may come. A read that a signal cut short is no end.
+fn read_into<R: Read>(reader: &mut R, room: &mut [u8], bytes: &mut Vec<u8>) -> io::Result<bool>
+    requires { 0 < length room.old }
+    ensures more { OnOk result (IsMore (R.remaining reader.old) (R.remaining reader.new) bytes.old.items bytes.new.items) }
+    ensures bound { length bytes.new.items ≤ length bytes.old.items + length room.old }
+    ensures end { IfOk result (λ more. more ≡ false → IsAtEnd (R.remaining reader.new)) }
+{
+    match reader.read(room) {
+        Ok(0) => return Ok(false),
+        Ok(count) => {
+            bytes.extend_from_slice(&room[..count])?;
+            return Ok(true);
+        }
+        Err(error) => {
+            if error.kind() == ErrorKind::Interrupted {
+                return Ok(true);
+            }
+            return Err(error);
+        }
+    }
+}
+
+/// The same, of at most so many bytes.
+fn read_more<R: Read>(reader: &mut R, most: u64, bytes: &mut Vec<u8>) -> io::Result<bool>
+    requires { 0 < most }
+    ensures more { OnOk result (IsMore (R.remaining reader.old) (R.remaining reader.new) bytes.old.items bytes.new.items) }
+    ensures bound { length bytes.new.items ≤ length bytes.old.items + most }
+    ensures end { IfOk result (λ more. more ≡ false → IsAtEnd (R.remaining reader.new)) }
+{
+    let mut piece = [0; PIECE];
+    let room = if most < PIECE as u64 {
+        most as usize
+    } else {
+        PIECE
+    };
+    read_into(reader, &mut piece[..room], bytes)
+}
+
+/// The bytes that a reader gives, up to the first `most`.
+///
+/// No byte after these is read. A reader that fails in the middle gives no bytes, so what comes is never a shorter file.
+pub(crate) fn take_bytes<R: Read>(alloc: Global, reader: &mut R, most: u64) -> io::Result<Vec<u8>>
+    ensures bound { IfOk result (λ got. length got.items ≤ most) }
+    ensures front { IfOk result (λ got. Consumes (R.remaining reader.old) (R.remaining reader.new) got.items) }
+    ensures whole { IfOk result (λ got. length got.items < most → IsAtEnd (R.remaining reader.new)) }
+{
+    let mut bytes = Vec::new(alloc);
+    for _ in 0..u64::MAX {
+        let left = most - bytes.len() as u64;
+        if left == 0 {
+            return Ok(bytes);
+        }
+        if !read_more(reader, left, &mut bytes)? {
+            return Ok(bytes);
+        }
+    }
+    Err(ErrorKind::TimedOut.into())
+}
+
 /// The bytes of a file up to the first `most`.
-fn take_bytes<R: std::rt::Files>(
+fn file_bytes<R: std::rt::Files>(
     alloc: Global,
     rt: &R,
     name: &str,
     most: u64,
 ) -> io::Result<Vec<u8>> {
-    let mut bytes = Vec::new(alloc);
-    fs::open(rt, name)?.take(most).read_to_end(&mut bytes)?;
-    Ok(bytes)
+    take_bytes(alloc, &mut fs::open(rt, name)?, most)
 }
 
 impl<'r, R: std::rt::Files> Files for RealFiles<'r, R> {
@@ -69,7 +130,7 @@ impl<'r, R: std::rt::Files> Files for RealFiles<'r, R> {
     {
         let copy = String::from_str(self.alloc, name).map_err(ReadFault::Memory)?;
         self.failed.reserve(1).map_err(ReadFault::Memory)?;
-        match take_bytes(self.alloc, self.rt, name, most.saturating_add(1)) {
+        match file_bytes(self.alloc, self.rt, name, most.saturating_add(1)) {
             Ok(bytes) if bytes.len() as u64 <= most => Ok(bytes),
             Ok(_) => Err(ReadFault::TooLong { taken: most + 1 }),
             Err(e) if e.kind() == ErrorKind::OutOfMemory => Err(ReadFault::Memory(AllocError)),

@@ -1,6 +1,7 @@
+use crate::real::take_bytes;
 use crate::{Files, MemFile, MemFiles, MemSink, ReadFault, RealFiles, RealSink, Sink};
 use std::fs;
-use std::io::{self, Write};
+use std::io::{self, ErrorKind, Read, Write};
 use std::test::Fail;
 
 /// The bytes of an answer, or its fault in words.
@@ -58,18 +59,80 @@ fn memory_takes_what_fits(rt: HostRuntime) -> Result<(), Fail> {
     Ok(())
 }
 
-/// A writer that takes nothing.
+/// A reader that gives so many letters, one at a time, and then fails.
 #[derive(Drop)]
-struct Full;
+struct Failing {
+    left: u64,
+}
 
-impl Write for Full {
-    fn write(&mut self, _piece: &[u8]) -> io::Result<usize> {
-        Ok(0)
+impl Read for Failing {
+    fn read(&mut self, piece: &mut [u8]) -> io::Result<usize> {
+        if self.left == 0 {
+            return Err(ErrorKind::Other.into());
+        }
+        if piece.is_empty() {
+            return Ok(0);
+        }
+        self.left -= 1;
+        piece[0] = b'a';
+        Ok(1)
+    }
+}
+
+#[test]
+fn a_reader_that_fails_gives_no_shorter_file(rt: HostRuntime) -> Result<(), Fail> {
+    for (most, wanted, left) in [
+        (0, Some(""), 3u64),
+        (2, Some("aa"), 1),
+        (3, Some("aaa"), 0),
+        (4, None, 0),
+    ] {
+        let mut reader = Failing { left: 3 };
+        let read = take_bytes(rt.alloc(), &mut reader, most);
+        let got = read.as_ref().ok().map(|bytes| bytes.as_slice());
+        assert_eq!(rt; got, wanted.map(|text| text.as_bytes()), "{most}");
+        assert_eq!(rt; reader.left, left, "{most}");
+    }
+    Ok(())
+}
+
+/// A writer that takes so many bytes at once, and whose flush may fail.
+#[derive(Drop)]
+struct Taker {
+    most: usize,
+    is_flushed: bool,
+}
+
+impl Write for Taker {
+    fn write(&mut self, piece: &[u8]) -> io::Result<usize> {
+        Ok(piece.len().min(self.most))
     }
 
     fn flush(&mut self) -> io::Result<()> {
-        Ok(())
+        if self.is_flushed {
+            Ok(())
+        } else {
+            Err(ErrorKind::Other.into())
+        }
     }
+}
+
+#[test]
+fn a_writer_that_takes_nothing_or_is_not_flushed_fails(rt: HostRuntime) -> Result<(), Fail> {
+    for (most, is_flushed, piece, is_whole) in [
+        (2, true, "abcde", true),
+        (0, true, "", true),
+        (0, true, "a", false),
+        (2, false, "ab", false),
+    ] {
+        let mut sink = RealSink::new(Taker { most, is_flushed });
+        assert_eq!(rt;
+            sink.write_all(piece.as_bytes()).is_ok(),
+            is_whole,
+            "{piece}"
+        );
+    }
+    Ok(())
 }
 
 #[test]
@@ -89,9 +152,5 @@ fn the_system_reads_and_writes(rt: HostRuntime) -> Result<(), Fail> {
     }
     fs::remove_file(&rt, name)?;
     assert_eq!(rt; answer(&files.read_all(name, 3)), Err("failed"));
-
-    let mut full = RealSink::new(Full);
-    assert!(rt; full.write_all(b"").is_ok());
-    assert!(rt; full.write_all(b"a").is_err());
     Ok(())
 }
