@@ -12,7 +12,7 @@ use Rattle.vc_model.specs.Members.{In-up_from}
 use Rattle.vc_model.specs.Choices.{cond-times, times-cond}
 use Rattle.vc_model.specs.LastSteps.{sum_pick_state, eqb_comm}
 use Rattle.vc_model.specs.ProperRows.{coefficient-row}
-use Rattle.vc_model.proofs.LetterSteps.{future_empty, future_letter}
+use Rattle.vc_model.specs.LetterSteps.{future_empty, future_letter}
 use Rattle.vc_model.specs.LetterRows.{HasLetters-IsProper, row_letter}
 
 module _ {V : Type 0} {R : WeightSet V} (L : SemiringLaws R) (A : Automaton V) (G : IsAutomaton R 1 A) (H : HasLetters A) where

@@ -17,9 +17,9 @@ use Rattle.vc_model.specs.SumLaws.{sum_same, sum_zero, sum-map, sum-flat_map}
 use Rattle.vc_model.specs.Members.{In-map, In-map_from, In-flat_map, In-flat_map_from, In-up_from, up_from-In, NoRepeat-up_from, NoRepeat-map, NoRepeat-flat_map}
 use Rattle.vc_model.specs.Choices.{cond-sum}
 use Rattle.vc_model.specs.Keys.{sum_at}
-use Rattle.vc_model.proofs.Gathering.{gathered_steps, gathered_from}
-use Rattle.vc_model.proofs.CircuitLaws.{proper-NoEmptyCircuit}
-use Rattle.vc_model.proofs.OneSolution.{solution_is_future}
+use Rattle.vc_model.specs.Gathering.{gathered_steps, gathered_from}
+use Rattle.vc_model.specs.CircuitLaws.{proper-NoEmptyCircuit}
+use Rattle.vc_model.specs.OneSolution.{solution_is_future}
 
 map-map : {X Y Z : Type 0} (f : Y → Z) (g : X → Y) (xs : List X) → map f (map g xs) ≡ map (λ x. f (g x)) xs
 map-map f g [] = refl

@@ -13,15 +13,14 @@ use Rattle.vc_model.specs.Machines.{place_in}
 use Rattle.vc_model.specs.Trims.{is_between, placed, IsTrim}
 use Rattle.vc_model.specs.Rearranged.{zero_times}
 use Rattle.vc_model.specs.SumLaws.{sum-map, sum-filter, sum_same, sum_zero}
-use Rattle.vc_model.proofs.SameSums.{same_sums}
-use Rattle.vc_model.specs.Members.{In-map_from, In-filter_from, up_from-In, NoRepeat-up_from}
+use Rattle.vc_model.specs.SameSums.{same_sums}
+use Rattle.vc_model.specs.Members.{In-map_from, In-filter_from, up_from-In, NoRepeat-up_from, below-In}
 use Rattle.vc_model.specs.WordLaws.{bool_same, and_parts, join-cut}
 use Rattle.vc_model.specs.PathLaws.{paths-In, IsPath-append, end_of-append}
 use Rattle.vc_model.specs.Rests.{at_rest_same}
 use Rattle.vc_model.specs.FirstSteps.{future_within-suc, future_within-zero}
-use Rattle.vc_model.proofs.Bounds.{future_within-bounds}
+use Rattle.vc_model.specs.Bounds.{future_within-bounds}
 use Rattle.vc_model.proofs.NumberingLaws.{is_among-In, In-is_among}
-use Rattle.vc_model.proofs.ConjugateLaws.{below-In}
 use Rattle.vc_model.proofs.MachineLaws.{place_at, at_place, at-In}
 
 number_test : IsEqualityTest eqb

@@ -1,5 +1,5 @@
 use Rattle.std.proofs.Common.{sym, ◌∙◌}
-use Rattle.vc_model.proofs.Gathering.{gathered_steps, gathered_labels}
+use Rattle.vc_model.specs.Gathering.{gathered_steps, gathered_labels}
 use Rattle.vc_model.proofs.SameMoves.{future_within-same, coefficient-same}
 use Rattle.vc_model.proofs.gathered.gathering_keeps_series.Goals as goal
 

@@ -1,4 +1,4 @@
-use Rattle.vc_model.proofs.Gathering.{gathered_sum, gathered_steps}
+use Rattle.vc_model.specs.Gathering.{gathered_sum, gathered_steps}
 use Rattle.vc_model.proofs.gathered.gathering_keeps_sums.Goals as goal
 
 pub returns-clause-all : goal.returns-clause-all

@@ -1,5 +1,5 @@
 use Rattle.vc_model.specs.GatheredLaws.{gathered_members, members_gathered, gathered_alike}
-use Rattle.vc_model.proofs.Gathering.{gathered_from, gather_is}
+use Rattle.vc_model.specs.Gathering.{gathered_from, gather_is}
 use Rattle.vc_model.proofs.gathered.transitions_are_gathered.Goals as goal
 
 pub returns-clause-members : goal.returns-clause-members

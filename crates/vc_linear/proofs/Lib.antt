@@ -1,0 +1,2 @@
+pub mod ConjugateLaws
+pub mod TableLaws

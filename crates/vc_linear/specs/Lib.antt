@@ -1,0 +1,3 @@
+-- definitions
+pub mod Conjugates
+pub mod Tables

@@ -1,0 +1,6 @@
+pub mod Composed
+pub mod CompositionLaws
+pub mod JoinCircuits
+pub mod JoinLaws
+pub mod LetterProducts
+pub mod ProjectionLaws

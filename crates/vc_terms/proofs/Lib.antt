@@ -1,0 +1,9 @@
+pub mod Atoms
+pub mod Elimination
+pub mod Examples
+pub mod GivenLaws
+pub mod ItemLaws
+pub mod SeriesLaws
+pub mod StarLaws
+pub mod TapeSeries
+pub mod TermLaws

@@ -1,0 +1,4 @@
+-- definitions
+pub mod Terms
+pub mod Systems
+pub mod ItemLists
