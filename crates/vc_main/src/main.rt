@@ -1,13 +1,17 @@
 //! The program: real files and streams, and the words after the program's name.
 #![tactic(auto)]
 
+ghost use Rattle.std.specs.Prelude.{◌≡◌};
+ghost use Rattle.std.specs.Process.{exit_status};
+ghost use Rattle.vc_top.specs.Statuses.{code_of};
+
 use std::alloc::AllocError;
 use std::env;
 use std::io::ErrorKind;
 use std::process::ExitCode;
 use vc_command::RequestFault;
 use vc_files::{RealFiles, RealSink};
-use vc_top::{refuse, run};
+use vc_top::{Status, refuse, run};
 
 /// The words after the program's name, or why they are not to be had: they are no text, or there is no memory for them.
 fn words<R: std::rt::Env + AllocGlobal>(rt: &R) -> Result<Vec<String>, RequestFault> {
@@ -28,6 +32,13 @@ fn words<R: std::rt::Env + AllocGlobal>(rt: &R) -> Result<Vec<String>, RequestFa
     Ok(words)
 }
 
+/// The exit code of a status.
+fn exit_code(status: Status) -> ExitCode
+    ensures { exit_status result ≡ code_of status }
+{
+    ExitCode::from(status.code())
+}
+
 fn main(rt: HostRuntime) -> ExitCode {
     let mut err = RealSink::new(rt.stderr());
     let status = match words(&rt) {
@@ -38,5 +49,5 @@ fn main(rt: HostRuntime) -> ExitCode {
         }
         Err(fault) => refuse(fault, &mut err),
     };
-    ExitCode::from(status.code())
+    exit_code(status)
 }
