@@ -49,7 +49,7 @@ fn multiply(row: &mut [Fraction], by: Fraction) -> Result<(), Overflow<Fraction>
     requires by_in { IsTrue (holds by) }
     ensures steps { result ≡ outcome rationals (product_steps by row.old) tt }
     ensures row { OnOk result (row.new ≡ row_times rationals by row.old) }
-    ensures err { OnErr result (IsSplitInFront (row_times rationals by row.old) row.old row.new) }
+    ensures err { OnErr result (IsSplitInFront rationals (product_steps by row.old) (row_times rationals by row.old) row.old row.new) }
 {
     for x in row.iter_mut() {
         *x = Q::mul(*x, by)?;

@@ -1,13 +1,15 @@
 -- Rows of weights that were split in part.
-use Rattle.std.specs.Prelude.{◌≡◌, ◌<◌, ℕ, List, length, take, drop, IsTrue}
+use Rattle.std.specs.Prelude.{◌≡◌, ◌<◌, ◌+◌, ℕ, List, length, take, drop, IsTrue}
 use Rattle.vc_model.specs.WeightSet.{WeightSet, InRange, IsZeroRow}
 use Rattle.vc_ring.specs.Steps.{AllFit}
 use Rattle.vc_ring.specs.declared.faults.Overflow.{Overflow}
 
--- in front of a place the row is normal, and from it on it is as before
-pub record IsSplitInFront {V : Type 0} (normal old new : List V) : Type 0 where
+-- at a place the step of the entry does not fit, and all steps before it do; in front of it the row is normal, and from it on it is as before
+pub record IsSplitInFront {V : Type 0} (R : WeightSet V) (steps : List (Overflow V)) (normal old new : List V) : Type 0 where
   pub place : ℕ
   pub inside : place < length old
+  pub fit : AllFit R (take place steps)
+  pub unfit : ¬ AllFit R (take (place + 1) steps)
   pub front : take place new ≡ take place normal
   pub rest : drop place new ≡ drop place old
 

@@ -1,3 +1,5 @@
+ghost use Rattle.std.specs.Prelude.{◌≡◌};
+
 use std::alloc::AllocError;
 
 /// A step whose result no value stands for, with its operands.
@@ -58,4 +60,34 @@ pub enum MakeFault<V> {
     Overflow(Overflow<V>),
     Limit(Limit),
     Memory(AllocError),
+}
+
+impl<V> From<AllocError> for MakeFault<V> {
+    ghost use Rattle.vc_ring.specs.declared.faults.MakeFault.TheVariants.{Memory};
+
+    ghost from_gives = { λ error fault. fault ≡ Memory error };
+
+    fn from(error: AllocError) -> MakeFault<V> {
+        MakeFault::Memory(error)
+    }
+}
+
+impl<V> From<Overflow<V>> for MakeFault<V> {
+    ghost use Rattle.vc_ring.specs.declared.faults.MakeFault.TheVariants.{Overflow};
+
+    ghost from_gives = { λ step fault. fault ≡ Overflow step };
+
+    fn from(step: Overflow<V>) -> MakeFault<V> {
+        MakeFault::Overflow(step)
+    }
+}
+
+impl<V> From<Limit> for MakeFault<V> {
+    ghost use Rattle.vc_ring.specs.declared.faults.MakeFault.TheVariants.{Limit};
+
+    ghost from_gives = { λ limit fault. fault ≡ Limit limit };
+
+    fn from(limit: Limit) -> MakeFault<V> {
+        MakeFault::Limit(limit)
+    }
 }

@@ -43,14 +43,14 @@ pub trait Split: Semiring {
     ghost split_steps: { List Self.Value → List (Overflow Self.Value) };
 
     /// Answers the factor and leaves the normal row. `Overflow` comes exactly where a step of the
-    /// normal row does not fit; then the entries in front of the failing place are normal, and the
-    /// others are as before.
+    /// normal row does not fit; then the entries before its place are normal, and the others are as
+    /// before.
     fn split(row: &mut [Self::Value]) -> Result<Self::Value, Overflow<Self::Value>>
         requires row_in { InRange Self.set row.old }
         requires not_zero { ¬ IsZeroRow Self.set row.old }
         ensures steps { result ≡ outcome Self.set (split_steps row.old) (factor row.old) }
         ensures row { OnOk result (row.new ≡ normal row.old) }
-        ensures err { OnErr result (IsSplitInFront (normal row.old) row.old row.new) };
+        ensures err { OnErr result (IsSplitInFront Self.set (split_steps row.old) (normal row.old) row.old row.new) };
 
     /// The factor times the normal row is the row, and a factor before a row keeps its normal row.
     ghost split_laws: { SplitLaws Self.set factor normal };

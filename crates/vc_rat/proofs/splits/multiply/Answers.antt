@@ -13,7 +13,7 @@ mul-requires-clause-left_in c =
 pub returns-in_err-x-clause-err : goal.returns-in_err-x-clause-err
 returns-in_err-x-clause-err c =
     let inside : c.loop-x.x-index < length c.args.row.now = search rules in
-    failed _ _ _ _ (at-failure c.args.by c.args.row.now c.loop-x.row c.loop-x.x-index c.x-item.result c.loop-x.invariant inside)
+    failed _ (at-failure c.args.by c.args.row.now c.loop-x.row c.loop-x.x-index c.x-item.result c.mul.result _ c.loop-x.invariant inside c.mul.ensures c.in_err-x.was)
 
 pub loop-x-preserved : goal.loop-x-preserved
 loop-x-preserved c =
