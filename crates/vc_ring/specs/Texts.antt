@@ -1,5 +1,5 @@
 -- The texts of weights.
-use Rattle.std.specs.Prelude.{◌≡◌, ◌≢◌, ◌≤◌, ℕ, Bool, true, List, [], All, IsTrue, Option, None, Some, Result, Ok, Err, if◌then◌else◌}
+use Rattle.std.specs.Prelude.{◌≡◌, ◌≢◌, ◌≤◌, ℕ, Bool, List, [], All, IsTrue, Option, None, Some, Result, Ok, Err, if◌then◌else◌}
 use Rattle.vc_model.specs.WeightSet.{WeightSet}
 use Rattle.vc_ring.specs.declared.faults.NumberFault.{NumberFault}
 use Rattle.vc_ring.specs.declared.faults.NumberFault.TheVariants.{Bad, Overflow}
