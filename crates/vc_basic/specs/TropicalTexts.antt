@@ -9,6 +9,7 @@ use Rattle.std.specs.List.{All}
 use Rattle.std.specs.Option.{option_map}
 use Rattle.std.specs.Str.{all_ascii_digits}
 use Rattle.vc_ring.specs.Texts.{TextLaws, IsWeightByte}
+use Rattle.vc_ring.specs.WeightBytes.{digit_byte}
 use Rattle.vc_num.specs.Decimals.{is_numeral, number_of_digits}
 use Rattle.vc_num.specs.Numerals.{spelled_natural, natural_fits}
 use Rattle.vc_num.specs.NumeralLaws.{short, spelled_natural-decimal, natural_fits-decimal, natural_bytes}
@@ -50,7 +51,7 @@ o_byte = record { low = omega arith; high = omega arith; not_less = λ q. absurd
 
 tropical_bytes : (v : NminValue) → All IsWeightByte (tropical_text v)
 tropical_bytes Infinite = All-cons IsWeightByte 111 (111 ∷ []) o_byte (All-cons IsWeightByte 111 [] o_byte (All-nil IsWeightByte))
-tropical_bytes (Finite n) = natural_bytes n
+tropical_bytes (Finite n) = natural_bytes IsWeightByte digit_byte n
 
 pub tropical_texts : TextLaws tropical spelled_tropical tropical_fits tropical_text
 tropical_texts = record {

@@ -9,7 +9,8 @@ use Rattle.vc_model.specs.WeightSet.{SemiringLaws, RangeLaws, Absorbs}
 use Rattle.vc_num.specs.Integers.{*ℤ_assoc, *ℤ-+ℤ}
 use Rattle.vc_num.specs.Numerals.{spelled_whole, whole_fits}
 use Rattle.vc_num.specs.NumeralLaws.{whole-in_range, spelled_whole-decimal, whole_fits-decimal, whole_bytes}
-use Rattle.vc_ring.specs.Texts.{TextLaws}
+use Rattle.vc_ring.specs.Texts.{TextLaws, IsWeightByte}
+use Rattle.vc_ring.specs.WeightBytes.{digit_byte, minus_byte}
 use Rattle.vc_basic.specs.Wholes.{wholes}
 
 plus-zero : (a : ℤ) → a +ℤ pos 0 ≡ a
@@ -70,5 +71,5 @@ whole_texts = record {
   read_in = whole-in_range;
   written = spelled_whole-decimal;
   written_fits = whole_fits-decimal;
-  bytes = whole_bytes;
+  bytes = whole_bytes IsWeightByte digit_byte minus_byte;
 }

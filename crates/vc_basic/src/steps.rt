@@ -35,6 +35,17 @@ macro_rules! read_bit {
     };
 }
 
+// A number that was read, or why the text is no weight.
+macro_rules! read_number {
+    ($read:expr) => {
+        match $read {
+            Ok(number) => Ok(number),
+            Err(vc_num::NumeralFault::Bad) => Err(vc_ring::NumberFault::Bad),
+            Err(vc_num::NumeralFault::Overflow) => Err(vc_ring::NumberFault::Overflow),
+        }
+    };
+}
+
 // Appends `0` or `1`.
 macro_rules! write_bit {
     ($value:expr, $into:expr) => {
@@ -50,6 +61,7 @@ macro_rules! write_number {
 }
 
 pub(crate) use read_bit;
+pub(crate) use read_number;
 pub(crate) use star_of_zero;
 pub(crate) use step;
 pub(crate) use write_bit;

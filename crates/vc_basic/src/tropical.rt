@@ -5,7 +5,7 @@ ghost use Rattle.vc_basic.specs.TropicalSplits.{least_entry, without, tropical_n
 ghost use Rattle.vc_basic.specs.TropicalLaws.{tropical_laws, tropical_ranges, tropical_absorbs};
 ghost use Rattle.vc_basic.specs.TropicalTexts.{tropical_texts};
 
-use crate::steps::{step, write_number};
+use crate::steps::{read_number, step, write_number};
 use std::alloc::AllocError;
 use vc_num::read_natural;
 use vc_ring::{NumberFault, Overflow, Semiring, Split, StarFault};
@@ -77,7 +77,7 @@ impl Semiring for Nmin {
     fn read(text: &[u8]) -> Result<NminValue, NumberFault> {
         match text {
             b"oo" => Ok(NminValue::Infinite),
-            _ => read_natural(text).map(NminValue::Finite),
+            _ => read_number!(read_natural(text)).map(NminValue::Finite),
         }
     }
 

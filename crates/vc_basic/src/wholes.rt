@@ -9,7 +9,7 @@ ghost use Rattle.vc_basic.specs.Wholes.{wholes};
 ghost use Rattle.vc_basic.specs.WholeLaws.{whole_laws, whole_ranges, whole_texts, wholes_absorb};
 ghost use Rattle.vc_basic.specs.WholeSplits.{common_divisor, leading_sign, whole_factor, whole_normal, whole_splits, whole_split_ranges};
 
-use crate::steps::{star_of_zero, step, write_number};
+use crate::steps::{read_number, star_of_zero, step, write_number};
 use std::alloc::AllocError;
 use vc_num::{checked_add, checked_mul, gcd, read_whole};
 use vc_ring::{NumberFault, Overflow, Semiring, Split, StarFault};
@@ -67,7 +67,7 @@ impl Semiring for Z {
     }
 
     fn read(text: &[u8]) -> Result<i128, NumberFault> {
-        read_whole(text)
+        read_number!(read_whole(text))
     }
 
     fn write(value: i128, into: &mut String) -> Result<(), AllocError> {

@@ -5,4 +5,5 @@ pub mod Integers
 pub mod Decimals
 pub mod Printed
 pub mod Numerals
+pub mod NumeralReads
 pub mod NumeralLaws

@@ -7,7 +7,6 @@ use Rattle.std.specs.Char.{is_ascii_digit}
 use Rattle.std.specs.Fmt.{decimal, signed_decimal}
 use Rattle.std.specs.Option.{option_map}
 use Rattle.std.specs.Str.{all_ascii_digits}
-use Rattle.vc_ring.specs.Texts.{IsWeightByte}
 use Rattle.vc_num.specs.Decimals.{is_numeral}
 use Rattle.vc_num.specs.Range.{in_range}
 use Rattle.vc_num.specs.Numerals.{spelled_natural, natural_fits, magnitude_fits, spelled_whole, whole_fits}
@@ -79,18 +78,11 @@ pub whole-in_range : (text : List ℕ) (z : ℤ) → spelled_whole text ≡ Some
 whole-in_range [] z e h = absurd (cc)
 whole-in_range (c ∷ text) z e h = either-in_range (c == 45) text (c ∷ text) z e h
 
--- a digit may stand in a weight
-digit_byte : (d : ℕ) → d < 10 → IsWeightByte (48 + d)
-digit_byte d h = record { low = omega arith; high = omega arith; not_less = λ q. absurd (omega (arith, q)); not_greater = λ q. absurd (omega (arith, q)) }
+-- each byte of what is printed of a natural number is a digit, so what holds of digits holds of it
+pub natural_bytes : (P : ℕ → Type 0) → ((d : ℕ) → d < 10 → P (48 + d)) → (n : ℕ) → All P (decimal n)
+natural_bytes P digit n = All-decimal P digit n
 
-minus_byte : IsWeightByte 45
-minus_byte = record { low = omega arith; high = omega arith; not_less = λ q. absurd (omega (arith, q)); not_greater = λ q. absurd (omega (arith, q)) }
-
--- each byte of what is printed of a natural number may stand in a weight
-pub natural_bytes : (n : ℕ) → All IsWeightByte (decimal n)
-natural_bytes n = All-decimal IsWeightByte digit_byte n
-
--- and of a whole number
-pub whole_bytes : (z : ℤ) → All IsWeightByte (signed_decimal z)
-whole_bytes (pos n) = natural_bytes n
-whole_bytes (negsuc n) = All-cons IsWeightByte 45 (decimal (suc n)) minus_byte (natural_bytes (suc n))
+-- and of a whole number, with the minus
+pub whole_bytes : (P : ℕ → Type 0) → ((d : ℕ) → d < 10 → P (48 + d)) → P 45 → (z : ℤ) → All P (signed_decimal z)
+whole_bytes P digit minus (pos n) = natural_bytes P digit n
+whole_bytes P digit minus (negsuc n) = All-cons P 45 (decimal (suc n)) minus (natural_bytes P digit (suc n))

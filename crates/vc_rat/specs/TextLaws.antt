@@ -17,6 +17,7 @@ use Rattle.vc_num.specs.Numerals.{spelled_natural, magnitude_fits, spelled_whole
 use Rattle.vc_num.specs.NumeralLaws.{short_magnitude, spelled_natural-decimal, magnitude_fits-decimal, spelled_whole-decimal, whole_fits-decimal, magnitude-in_range, whole-in_range, whole_bytes}
 use Rattle.vc_num.specs.Printed.{is_numeral-decimal}
 use Rattle.vc_ring.specs.Texts.{TextLaws, IsWeightByte}
+use Rattle.vc_ring.specs.WeightBytes.{digit_byte, minus_byte}
 use Rattle.vc_rat.specs.Rationals.{reduced, holds, denominator, positive, rationals}
 use Rattle.vc_rat.specs.RationalRanges.{reduced-holds, and-both, and-first, and-second}
 use Rattle.vc_rat.specs.Reduced.{positive-suc, magnitude-is}
@@ -139,8 +140,11 @@ by-test P false s t p q = q
 slash-byte : IsWeightByte 47
 slash-byte = record { low = omega arith; high = omega arith; not_less = λ e. absurd (omega (arith, e)); not_greater = λ e. absurd (omega (arith, e)) }
 
+whole-bytes : (z : ℤ) → All IsWeightByte (signed_decimal z)
+whole-bytes = whole_bytes IsWeightByte digit_byte minus_byte
+
 text-bytes : (x : Fraction) → All IsWeightByte (fraction_text x)
-text-bytes x = by-test (All IsWeightByte) (int_eq x.bottom (pos 1)) (signed_decimal x.top) (quotient_text x) (λ e. whole_bytes x.top) (All-append IsWeightByte (signed_decimal x.top) (47 ∷ signed_decimal x.bottom) (whole_bytes x.top) (All-cons IsWeightByte 47 (signed_decimal x.bottom) slash-byte (whole_bytes x.bottom)))
+text-bytes x = by-test (All IsWeightByte) (int_eq x.bottom (pos 1)) (signed_decimal x.top) (quotient_text x) (λ e. whole-bytes x.top) (All-append IsWeightByte (signed_decimal x.top) (47 ∷ signed_decimal x.bottom) (whole-bytes x.top) (All-cons IsWeightByte 47 (signed_decimal x.bottom) slash-byte (whole-bytes x.bottom)))
 
 -- a text whose numbers are in range spells a fraction in range
 

@@ -4,6 +4,8 @@ use Rattle.std.specs.Fmt.{signed_decimal}
 use Rattle.std.specs.List.{position}
 use Rattle.std.specs.Ordering.{int_eq}
 use Rattle.vc_num.specs.Numerals.{spelled_natural, magnitude_fits, spelled_whole, whole_fits}
+use Rattle.vc_num.specs.declared.numerals.NumeralFault.{NumeralFault}
+use Rattle.vc_num.specs.declared.numerals.NumeralFault.TheVariants as numeral
 use Rattle.vc_ring.specs.declared.faults.NumberFault.{NumberFault}
 use Rattle.vc_ring.specs.declared.faults.NumberFault.TheVariants.{Bad, Overflow}
 use Rattle.vc_rat.specs.Reduced.{positive-suc}
@@ -44,11 +46,13 @@ abbrev pub fraction_text : Fraction → List ℕ
 fraction_text x = if int_eq x.bottom (pos 1) then signed_decimal x.top else signed_decimal x.top ++ (47 ∷ signed_decimal x.bottom)
 
 -- what a top and a bottom that were read make
-abbrev pub quotient_read : Result ℤ NumberFault → Result ℕ NumberFault → Result Fraction NumberFault
-quotient_read (Err Bad) bottom = Err Bad
-quotient_read (Err Overflow) (Err fault) = Err fault
-quotient_read (Err Overflow) (Ok zero) = Err Bad
-quotient_read (Err Overflow) (Ok (suc d)) = Err Overflow
-quotient_read (Ok n) (Err fault) = Err fault
+abbrev pub quotient_read : Result ℤ NumeralFault → Result ℕ NumeralFault → Result Fraction NumberFault
+quotient_read (Err numeral.Bad) bottom = Err Bad
+quotient_read (Err numeral.Overflow) (Err numeral.Bad) = Err Bad
+quotient_read (Err numeral.Overflow) (Err numeral.Overflow) = Err Overflow
+quotient_read (Err numeral.Overflow) (Ok zero) = Err Bad
+quotient_read (Err numeral.Overflow) (Ok (suc d)) = Err Overflow
+quotient_read (Ok n) (Err numeral.Bad) = Err Bad
+quotient_read (Ok n) (Err numeral.Overflow) = Err Overflow
 quotient_read (Ok n) (Ok zero) = Err Bad
 quotient_read (Ok n) (Ok (suc d)) = Ok (reduced n (suc d) (positive-suc d))

@@ -6,7 +6,7 @@ ghost use Rattle.vc_rat.specs.Texts.{quotient_read, slash_in, spelled_fraction, 
 use crate::Fraction;
 use itoa::Buffer;
 use std::alloc::AllocError;
-use vc_num::{read_magnitude, read_whole};
+use vc_num::{NumeralFault, read_magnitude, read_whole};
 use vc_ring::NumberFault;
 
 // The number of digits behind an optional `-`, and behind it optionally `/` and digits that are not
@@ -30,16 +30,18 @@ fn slash(text: &[u8]) -> Option<usize>
 
 // The quotient of two numbers that were read.
 fn quotient(
-    top: Result<i128, NumberFault>,
-    bottom: Result<u128, NumberFault>,
+    top: Result<i128, NumeralFault>,
+    bottom: Result<u128, NumeralFault>,
 ) -> Result<Fraction, NumberFault>
     requires top_in { IfOk top (λ n. IsTrue (in_range n)) }
     requires bottom_in { IfOk bottom (λ d. IsTrue (in_range (pos d))) }
     ensures { result ≡ quotient_read top bottom }
 {
     match (top, bottom) {
-        (Err(NumberFault::Bad), _) | (_, Ok(0)) => Err(NumberFault::Bad),
-        (_, Err(fault)) | (Err(fault), _) => Err(fault),
+        (Err(NumeralFault::Bad), _) | (_, Ok(0) | Err(NumeralFault::Bad)) => Err(NumberFault::Bad),
+        (Err(NumeralFault::Overflow), _) | (_, Err(NumeralFault::Overflow)) => {
+            Err(NumberFault::Overflow)
+        }
         (Ok(top), Ok(bottom)) => Ok(Fraction::reduced(top, bottom)),
     }
 }

@@ -1,4 +1,5 @@
 pub mod Steps
 pub mod Sums
 pub mod Texts
+pub mod WeightBytes
 pub mod Splits
