@@ -1,11 +1,12 @@
 -- What the builder adds keeps what is true of each draft.
-use Rattle.std.proofs.Common.{◌≡◌, refl, ℕ, suc, ◌≤◌, ◌<◌, Bool, true, false, List, [], ◌∷◌, map, length, cond, None, Some, Option, Less, Equal, Greater, arith, IsTrue, All}
+use Rattle.std.proofs.Common.{◌≡◌, refl, ℕ, suc, ◌+◌, ◌≤◌, ◌<◌, Bool, true, false, List, [], ◌∷◌, map, length, cond, None, Some, Option, Less, Equal, Greater, arith, IsTrue, All}
 use Rattle.std.specs.Prelude.{nat_lt, not, ◌≢◌}
 use Rattle.std.specs.List.{filter}
 use Rattle.std.specs.Ordering.{match_ordering}
 use Rattle.std.specs.Cmp.{IsTotalOrder}
 use Rattle.std.specs.declared.cmp.Ordering.{Ordering}
 use Rattle.std.proofs.lemmas.List.Elements.{All-nil, All-cons, All-head, All-tail, All-filter, All-weaker, filter_passes}
+use Rattle.std.proofs.lemmas.List.Filters.{length-filter_both}
 use Rattle.std.proofs.lemmas.List.Kept.{IsStrictlySortedBy-filter}
 use Rattle.std.proofs.lemmas.Grind.{common_steps}
 use Rattle.vc_label.specs.declared.tape_set.TapeSet.{TapeSet}
@@ -123,5 +124,11 @@ module _ {V : Type 0} (R : WeightSet V) (same : V → V → Bool) (tells : IsEqu
           order = IsStrictlySortedBy-filter triple_order kept d.automaton.transitions h.drawn.order;
         };
         states = let most : d.most ≤ 1000000 = h.most in let states : d.automaton.states ≤ d.most = h.states in omega arith;
+        few = let most : d.most ≤ 1000000 = h.most in let states : d.automaton.states ≤ d.most = h.states in omega arith;
+        few_transitions =
+            let both : length (filter kept d.automaton.transitions) + length (filter (λ t. not (kept t)) d.automaton.transitions) ≡ length d.automaton.transitions =
+            length-filter_both kept (λ t. not (kept t)) (λ t. refl) d.automaton.transitions in
+            let most : length d.automaton.transitions ≤ 4000000 = h.transitions in
+            omega arith;
         weight = All-weaker (λ (t : Transition V). kept t ≡ true) (λ (t : Transition V). t.weight ≢ R.zero) (λ t e. not_zero t.weight e) (filter kept d.automaton.transitions) (filter_passes kept d.automaton.transitions);
       }

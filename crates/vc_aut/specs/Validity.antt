@@ -1,5 +1,5 @@
 -- Which automata are over some sets of labels, with weights that values stand for.
-use Rattle.std.specs.Prelude.{◌≡◌, ◌≢◌, ℕ, ◌<◌, ◌^◌, IsTrue, List, All, length}
+use Rattle.std.specs.Prelude.{◌≡◌, ◌≢◌, ℕ, ◌<◌, ◌≤◌, ◌^◌, IsTrue, List, All, length}
 use Rattle.vc_label.specs.Sets.{IsOverSets}
 use Rattle.vc_label.specs.declared.tape_set.TapeSet.{TapeSet}
 use Rattle.vc_model.specs.Automata.{Automaton, Transition}
@@ -23,8 +23,10 @@ pub record IsDrawn {V : Type 0} (R : WeightSet V) (sets : List TapeSet) (a : Aut
   pub moves : All (IsMove R sets a.states) a.transitions
   pub order : AreInOrder a.transitions
 
--- all that is true of each automaton of the code: besides, the states have numbers of 32 bits, and no transition has the weight zero
+-- all that is true of each automaton of the code: besides, the states have numbers of 32 bits, there are not too many of them nor of the transitions, and no transition has the weight zero
 pub record IsLabelled {V : Type 0} (R : WeightSet V) (a : Labelled V) : Type 0 where
   pub drawn : IsDrawn R a.sets a.automaton
   pub states : a.automaton.states < 2 ^ 32
+  pub few : a.automaton.states ≤ 1000000
+  pub few_transitions : length a.automaton.transitions ≤ 4000000
   pub weight : All (λ t. t.weight ≢ R.zero) a.automaton.transitions

@@ -1,4 +1,4 @@
-ghost use Rattle.std.specs.Prelude.{◌≡◌, ◌↔◌, ◌⊎◌, ◌<◌, ◌==◌, ℕ, Bool, List, [], length, map, Some, if◌then◌else◌};
+ghost use Rattle.std.specs.Prelude.{◌≡◌, ◌↔◌, ◌⊎◌, ◌<◌, ◌≤◌, ◌==◌, ℕ, Bool, List, [], length, map, Some, if◌then◌else◌};
 ghost use Rattle.vc_aut.specs.Drafts.{Draft, IsDraft, with_final, with_initial, with_state, without_zeros};
 ghost use Rattle.vc_aut.specs.Order.{AreInOrder};
 ghost use Rattle.vc_aut.specs.Sums.{insert_all, insert_transition, standing};
@@ -16,12 +16,15 @@ use vc_label::{LabelSet, words_are_ordered};
 use vc_ring::Semiring;
 
 /// What is true of each automaton: it is one in the sense of the definition, its labels are over
-/// its sets, its weights are in range, and its transitions are in order.
+/// its sets, its weights are in range, its transitions are in order, and it has at most so many
+/// states and transitions.
 pub fn automata_are_valid<L: LabelSet, S: Semiring>(aut: &Automaton<L, S>)
     ensures labelled { IsLabelled S.set aut.now }
     ensures automaton { IsAutomaton S.set (length aut.now.sets) aut.now.automaton }
     ensures moves { (t : Transition S.Value) → In t aut.now.automaton.transitions
         → IsMove S.set aut.now.sets aut.now.automaton.states t }
+    ensures few { aut.now.automaton.states ≤ 1000000 }
+    ensures few_transitions { length aut.now.automaton.transitions ≤ 4000000 }
 {
     let _ = &aut.labels;
     words_are_ordered();
@@ -35,6 +38,8 @@ pub fn proper_automata_are_proper<L: LabelSet, S: Semiring>(aut: &Proper<L, S>)
     ensures moves { (t : Transition S.Value) → In t aut.now.automaton.transitions
         → IsMove S.set aut.now.sets aut.now.automaton.states t }
     ensures proper { IsProper aut.now.automaton }
+    ensures few { aut.now.automaton.states ≤ 1000000 }
+    ensures few_transitions { length aut.now.automaton.transitions ≤ 4000000 }
 {
     automata_are_valid(&aut.automaton);
 }

@@ -12,4 +12,6 @@ returns g c =
       labelled = all;
       automaton = valid c.words_are_ordered.ensures.total c.words_are_ordered.ensures.equal g.S.Semiring.set c.args.aut.now all;
       moves = λ t i. of_member (IsMove g.S.Semiring.set c.args.aut.now.sets c.args.aut.now.automaton.states) t c.args.aut.now.automaton.transitions all.drawn.moves i;
+      few = all.few;
+      few_transitions = all.few_transitions;
     }
