@@ -20,7 +20,7 @@ use Rattle.vc_model.specs.PathLaws.{paths-In, IsPath-append, end_of-append}
 use Rattle.vc_model.specs.Rests.{at_rest_same}
 use Rattle.vc_model.specs.FirstSteps.{future_within-suc, future_within-zero}
 use Rattle.vc_model.specs.Bounds.{future_within-bounds}
-use Rattle.vc_model.proofs.NumberingLaws.{is_among-In, In-is_among}
+use Rattle.vc_model.specs.NumberingLaws.{is_among-In, In-is_among}
 use Rattle.vc_model.proofs.MachineLaws.{place_at, at_place, at-In}
 
 number_test : IsEqualityTest eqb

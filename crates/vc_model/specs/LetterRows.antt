@@ -1,11 +1,12 @@
 -- Rows along a word, where labels have one letter.
-use Rattle.std.proofs.Common.{◌≡◌, ◌≢◌, ℕ, [], ◌∷◌, ◌++◌, cond, Bool, true, false, eqb, refl, sym, ap, ◌∙◌, inl, inr, suc, ◌<◌, arith, length, Option, Some, None, length-append}
+use Rattle.std.proofs.Common.{◌≡◌, ◌≢◌, ℕ, [], ◌∷◌, ◌++◌, cond, Bool, true, false, eqb, refl, sym, ap, ◌∙◌, inl, inr, suc, ◌<◌, ◌≤◌, arith, length, Option, Some, None, length-append}
 use Rattle.std.proofs.lemmas.List.{same_from_push}
 use Rattle.std.proofs.lemmas.Bool.Decides.{eqb_tells}
 use Rattle.vc_model.specs.WeightSet.{WeightSet, SemiringLaws}
+use Rattle.vc_model.specs.Lists.{In}
 use Rattle.vc_model.specs.Sums.{sum_over}
 use Rattle.vc_model.specs.Words.{Tape, Word, size, front_before, put_front, cut_end, is_empty}
-use Rattle.vc_model.specs.Automata.{Automaton, IsAutomaton, IsProper, initial_weight, row, row_within, at_rest, last_step}
+use Rattle.vc_model.specs.Automata.{Transition, Automaton, IsAutomaton, IsProper, initial_weight, row, row_within, at_rest, last_step}
 use Rattle.vc_model.specs.Letters.{letter_of, HasLetters, arrival_sum}
 use Rattle.vc_model.specs.Rearranged.{zero_plus, zero_times}
 use Rattle.vc_model.specs.SumLaws.{sum_same}
@@ -31,6 +32,17 @@ not_empty (y ∷ u) x = refl
 -- where each label is a letter, no label is empty
 pub HasLetters-IsProper : {V : Type 0} (A : Automaton V) → HasLetters A → IsProper A
 HasLetters-IsProper A H t i e = let f : size ((letter_of t ∷ []) ∷ []) ≡ 0 = ap (λ w. size w) (sym (H t i)) ∙ e in absurd (omega arith)
+
+one_letter : {V : Type 0} (t : Transition V) (w : Word) → t.label ≡ w → length w ≡ 1 → size w ≢ 0 → size w ≤ 1 → t.label ≡ (letter_of t ∷ []) ∷ []
+one_letter t [] e l n h = absurd (omega (arith, l))
+one_letter t (a ∷ b ∷ w) e l n h = absurd (omega (arith, l))
+one_letter t ([] ∷ []) e l n h = absurd (n refl)
+one_letter t ((x ∷ y ∷ a) ∷ []) e l n h = absurd (omega (arith, h))
+one_letter t ((x ∷ []) ∷ []) e l n h = rw e refl
+
+-- where labels have at most one letter and none is empty, each is a letter
+pub proper-HasLetters : {V : Type 0} (A : Automaton V) → ((t : Transition V) → In t A.transitions → length t.label ≡ 1) → IsProper A → ((t : Transition V) → In t A.transitions → size t.label ≤ 1) → HasLetters A
+proper-HasLetters A tapes full short t i = one_letter t t.label refl (tapes t i) (full t i) (short t i)
 
 module _ {V : Type 0} {R : WeightSet V} (L : SemiringLaws R) (A : Automaton V) (G : IsAutomaton R 1 A) (H : HasLetters A) where
   -- the row of the empty word is the initial weights

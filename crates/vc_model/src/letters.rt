@@ -1,10 +1,10 @@
-ghost use Rattle.std.specs.Prelude.{ℕ, ◌<◌, [], ◌∷◌, ◌≡◌, ◌++◌};
-ghost use Rattle.vc_model.specs.Automata.{Automaton, IsAutomaton, future, final_weight, row, initial_weight, coefficient};
+ghost use Rattle.std.specs.Prelude.{ℕ, ◌<◌, ◌≤◌, [], ◌∷◌, ◌≡◌, ◌++◌};
+ghost use Rattle.vc_model.specs.Automata.{Automaton, Transition, IsAutomaton, IsProper, future, final_weight, row, initial_weight, coefficient};
 ghost use Rattle.vc_model.specs.Letters.{HasLetters, step_sum, arrival_sum};
-ghost use Rattle.vc_model.specs.Lists.{below};
+ghost use Rattle.vc_model.specs.Lists.{In, below};
 ghost use Rattle.vc_model.specs.Sums.{sum_over};
 ghost use Rattle.vc_model.specs.WeightSet.{WeightSet, SemiringLaws};
-ghost use Rattle.vc_model.specs.Words.{Tape};
+ghost use Rattle.vc_model.specs.Words.{Tape, size};
 
 /// The futures of an automaton whose labels have one letter.
 pub fn futures_by_letter<V>()
@@ -28,4 +28,11 @@ pub fn rows_by_letter<V>()
         → IsAutomaton R 1 A → HasLetters A → (a b : Tape)
         → sum_over R (λ t. R.times (row R A (a ∷ []) t) (future R A t (b ∷ []))) (below A.states)
         ≡ coefficient R A ((a ++ b) ∷ []) }
+{}
+
+/// Where labels of one tape have at most one letter and none is empty, each is a letter; and a letter is not empty.
+pub fn labels_are_letters<V>()
+    ensures letters { (R : WeightSet V) (A : Automaton V) → IsAutomaton R 1 A → IsProper A
+        → ((t : Transition V) → In t A.transitions → size t.label ≤ 1) → HasLetters A }
+    ensures proper { (A : Automaton V) → HasLetters A → IsProper A }
 {}

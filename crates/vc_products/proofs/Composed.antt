@@ -1,9 +1,9 @@
 -- The series of a join, and of a composition: the join without its middle tape.
-use Rattle.std.proofs.Common.{◌≡◌, ℕ, List, [], ◌∷◌, Bool, true, false, refl, sym, ap, ◌∙◌, inl, inr, ◌⊎◌, ◌<◌, ◌+◌, ◌*◌, arith}
+use Rattle.std.proofs.Common.{◌≡◌, ℕ, List, [], ◌∷◌, Bool, true, false, refl, sym, ap, ◌∙◌, inl, inr, ◌⊎◌, ◌<◌, ◌≤◌, ◌+◌, ◌*◌, arith}
 use Rattle.vc_model.specs.WeightSet.{WeightSet, SemiringLaws, Absorbs}
 use Rattle.vc_model.specs.Lists.{NoRepeat, below}
 use Rattle.vc_model.specs.Words.{Tape, size, tapes_within}
-use Rattle.vc_products.specs.Compositions.{IsComposition}
+use Rattle.vc_products.specs.Compositions.{IsComposition, composition_within}
 use Rattle.vc_model.specs.Automata.{Automaton, IsAutomaton, IsSound, NoCircuitOn, initial_weight, future, coefficient}
 use Rattle.vc_products.specs.Joins.{HasPairs, IsJoin}
 use Rattle.vc_products.specs.Projections.{outer_tapes, HasMiddles, IsProjection}
@@ -37,15 +37,19 @@ module _ {V : Type 0} {R : WeightSet V} (L : SemiringLaws R) (A B J : Automaton 
       begun i l true e = ap (λ x. R.times x (future R J i (u ∷ m ∷ v ∷ []))) (M.starts i l e) ∙ zero_times L _ ∙ sym (ap (λ x. R.times x (pair (left i) (right i))) (M.starts i l e) ∙ zero_times L _)
 
   -- where no circuit of the join is empty on the outer tapes, or one absorbs each element
-  pub composed : (F : Automaton V) → IsAutomaton R 2 F → IsProjection R J F → (alphabet : List ℕ) → NoRepeat alphabet → (W : ℕ) → HasMiddles alphabet W J → Absorbs R ⊎ NoCircuitOn 3 outer_tapes J
-      → (u v : Tape) → IsComposition R alphabet (coefficient R A) (coefficient R B) u v (coefficient R F (u ∷ v ∷ []))
-  composed F f P alphabet once W middles s u v = record {
-    bound = (size (u ∷ v ∷ []) + 1) * J.states * W;
-    stays = λ n h.
-        sum_same L _ _ (tapes_within alphabet n) (λ m i. sym (joined (sound s) u m v))
-        ∙ sym (projection_coefficient L alphabet once J F j f P W middles s u v n h);
-  }
+  pub composed_within : (F : Automaton V) → IsAutomaton R 2 F → IsProjection R J F → (alphabet : List ℕ) → NoRepeat alphabet → (W : ℕ) → HasMiddles alphabet W J → Absorbs R ⊎ NoCircuitOn 3 outer_tapes J
+      → (u v : Tape) (n : ℕ) → (size (u ∷ v ∷ []) + 1) * J.states * W ≤ n → composition_within R alphabet (coefficient R A) (coefficient R B) n u v ≡ coefficient R F (u ∷ v ∷ [])
+  composed_within F f P alphabet once W middles s u v n h =
+      sum_same L _ _ (tapes_within alphabet n) (λ m i. sym (joined (sound s) u m v))
+      ∙ sym (projection_coefficient L alphabet once J F j f P W middles s u v n h)
     where
       sound : Absorbs R ⊎ NoCircuitOn 3 outer_tapes J → IsSound R 3 J
       sound (inl absorbing) = inl absorbing
       sound (inr N) = inr (NoCircuitOn-NoEmptyCircuit 3 J j.label outer_tapes N)
+
+  pub composed : (F : Automaton V) → IsAutomaton R 2 F → IsProjection R J F → (alphabet : List ℕ) → NoRepeat alphabet → (W : ℕ) → HasMiddles alphabet W J → Absorbs R ⊎ NoCircuitOn 3 outer_tapes J
+      → (u v : Tape) → IsComposition R alphabet (coefficient R A) (coefficient R B) u v (coefficient R F (u ∷ v ∷ []))
+  composed F f P alphabet once W middles s u v = record {
+    bound = (size (u ∷ v ∷ []) + 1) * J.states * W;
+    stays = composed_within F f P alphabet once W middles s u v;
+  }

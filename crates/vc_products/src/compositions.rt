@@ -5,7 +5,7 @@ ghost use Rattle.vc_model.specs.Series.{Series};
 ghost use Rattle.vc_model.specs.Sums.{sum_over};
 ghost use Rattle.vc_model.specs.WeightSet.{WeightSet, SemiringLaws, Absorbs};
 ghost use Rattle.vc_model.specs.Words.{Tape, size, tapes_within};
-ghost use Rattle.vc_products.specs.Compositions.{IsComposition};
+ghost use Rattle.vc_products.specs.Compositions.{IsComposition, composition_within};
 ghost use Rattle.vc_products.specs.Joins.{HasPairs, IsJoin};
 ghost use Rattle.vc_products.specs.Projections.{IsProjection, HasMiddles, outer_tapes};
 
@@ -36,15 +36,25 @@ pub fn projections_have_their_series<V>()
         ≡ sum_over R (λ m. coefficient R J (u ∷ m ∷ v ∷ [])) (tapes_within alphabet n) }
 {}
 
-/// The join of two automata without its middle tape has their composition.
+/// The join of two automata without its middle tape has their composition, which is the sum over the middle words from
+/// this length on.
 pub fn compositions_have_their_series<V>()
-    ensures { (R : WeightSet V) → SemiringLaws R → (A B J : Automaton V) → IsAutomaton R 2 A
+    ensures series { (R : WeightSet V) → SemiringLaws R → (A B J : Automaton V) → IsAutomaton R 2 A
         → IsAutomaton R 2 B → IsAutomaton R 3 J → HasPairs 1 A → HasPairs 0 B → IsSound R 2 A
         → IsSound R 2 B → (left right : ℕ → ℕ) (flag : ℕ → Bool) → IsJoin R A B J left right flag
         → (F : Automaton V) → IsAutomaton R 2 F → IsProjection R J F → (alphabet : List ℕ)
         → NoRepeat alphabet → (W : ℕ) → HasMiddles alphabet W J
         → Absorbs R ⊎ NoCircuitOn 3 outer_tapes J → (u v : Tape)
         → IsComposition R alphabet (coefficient R A) (coefficient R B) u v (coefficient R F (u ∷ v ∷ [])) }
+    ensures bound { (R : WeightSet V) → SemiringLaws R → (A B J : Automaton V) → IsAutomaton R 2 A
+        → IsAutomaton R 2 B → IsAutomaton R 3 J → HasPairs 1 A → HasPairs 0 B → IsSound R 2 A
+        → IsSound R 2 B → (left right : ℕ → ℕ) (flag : ℕ → Bool) → IsJoin R A B J left right flag
+        → (F : Automaton V) → IsAutomaton R 2 F → IsProjection R J F → (alphabet : List ℕ)
+        → NoRepeat alphabet → (W : ℕ) → HasMiddles alphabet W J
+        → Absorbs R ⊎ NoCircuitOn 3 outer_tapes J → (u v : Tape) (n : ℕ)
+        → (size (u ∷ v ∷ []) + 1) * J.states * W ≤ n
+        → composition_within R alphabet (coefficient R A) (coefficient R B) n u v
+        ≡ coefficient R F (u ∷ v ∷ []) }
 {}
 
 /// A composition has at most one value at a pair of words.
