@@ -12,8 +12,8 @@ use Rattle.std.proofs.lemmas.List.Sums.{fold-append}
 use Rattle.std.proofs.lemmas.Slice.Eq.{bytes_eq-Decides}
 use Rattle.vc_model.specs.Lists.{NoRepeat, below, up_from}
 use Rattle.vc_model.specs.Members.{In-up_from, NoRepeat-map, NoRepeat-up_from}
-use Rattle.vc_daut.specs.Meaning.{number_of}
-use Rattle.vc_daut.specs.Names.{is_digit, is_number, has_no_zero_in_front, value_of, order_by, AreOrdered}
+use Rattle.vc_reader.specs.Meaning.{number_of}
+use Rattle.vc_lines.specs.Names.{is_digit, is_number, has_no_zero_in_front, value_of, order_by, AreOrdered}
 
 digit : (d : ℕ) → d < 10 → is_digit (48 + d) ≡ true
 digit d h = grind (arith, nat_tests)

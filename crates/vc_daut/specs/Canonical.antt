@@ -9,6 +9,7 @@ use Rattle.vc_model.specs.Automata.{Automaton, Transition, initial_weight, final
 use Rattle.vc_model.specs.Lists.{below}
 use Rattle.vc_model.specs.WeightSet.{WeightSet}
 use Rattle.vc_model.specs.Words.{Tape, Word}
+use Rattle.vc_ring.specs.Texts.{WeightTexts}
 
 -- a line of a text: an initial weight of a state, the transitions from one state to another, a final weight of a state, a state alone
 pub data TextLine (V : Type 0) : Type 0 where
@@ -103,6 +104,6 @@ module _ {V : Type 0} (R : WeightSet V) (same : V → V → Bool) where
     line_text (ends_line p w) = decimal p ++ (codes " -> $" ++ fed (behind_state w))
     line_text (state_line p) = fed (decimal p)
 
-    -- the context line, and the lines of the automaton
-    abbrev pub automaton_text : List TapeSet → Weights → Automaton V → List ℕ
-    automaton_text sets weights a = codes "context = \"" ++ (context_text sets weights ++ (codes "\"\n" ++ flat_map line_text (automaton_lines a)))
+-- the context line, and the lines of the automaton
+abbrev pub automaton_text : {V : Type 0} → WeightTexts V → List TapeSet → Weights → Automaton V → List ℕ
+automaton_text T sets weights a = codes "context = \"" ++ (context_text sets weights ++ (codes "\"\n" ++ flat_map (line_text T.set T.same T.canonical) (automaton_lines T.set T.same a)))

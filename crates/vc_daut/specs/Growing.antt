@@ -7,7 +7,7 @@ use Rattle.vc_model.specs.Automata.{Transition}
 use Rattle.vc_model.specs.WeightSet.{WeightSet}
 use Rattle.vc_model.specs.Words.{Word}
 
--- the new text is the old one with more behind it
+-- the new text is the old one with more after it
 pub record IsFront (old new : List ℕ) : Type 0 where
   pub more : List ℕ
   pub text : new ≡ old ++ more

@@ -48,7 +48,7 @@ fn push_byte(byte: u8, into: &mut String) -> Result<(), AllocError>
 }
 
 /// Appends a letter, with a backslash before it where it is not plain.
-#[tactic(auto, using(crate::proofs::Fronts::front_twice))]
+#[tactic(auto, using(crate::proofs::TextFronts::front_twice))]
 fn push_letter(letter: u8, into: &mut String) -> Result<(), AllocError>
     requires { letter < 128 }
     ensures ok { OnOk result (string_bytes into.new ≡ string_bytes into.old ++ letter_text letter) }
@@ -76,7 +76,7 @@ fn push_part(part: &[u8], into: &mut String) -> Result<(), AllocError>
 }
 
 /// Appends a bar and a part of a label.
-#[tactic(auto, using(crate::proofs::Fronts::front_twice))]
+#[tactic(auto, using(crate::proofs::TextFronts::front_twice))]
 fn push_next_part(part: &[u8], into: &mut String) -> Result<(), AllocError>
     requires { IsTrue (are_letters part.now) }
     ensures ok { OnOk result (string_bytes into.new ≡ string_bytes into.old ++ (124 ∷ part_text part.now)) }
@@ -104,7 +104,7 @@ fn push_label<L: LabelSet>(
 }
 
 /// Appends a weight in `<` and `>`.
-#[tactic(auto, using(crate::proofs::Fronts::front_twice))]
+#[tactic(auto, using(crate::proofs::TextFronts::front_twice))]
 pub(crate) fn push_weight<S: Semiring>(
     weight: S::Value,
     into: &mut String,
@@ -119,7 +119,7 @@ pub(crate) fn push_weight<S: Semiring>(
 }
 
 /// Appends the weight of an entry and its label.
-#[tactic(auto, using(crate::proofs::Fronts::front_twice))]
+#[tactic(auto, using(crate::proofs::TextFronts::front_twice))]
 fn push_entry<L: LabelSet, S: Semiring>(
     tapes: usize,
     entry: &Transition<L, S>,
@@ -137,7 +137,7 @@ fn push_entry<L: LabelSet, S: Semiring>(
 }
 
 /// Appends a comma, a blank and an entry.
-#[tactic(auto, using(crate::proofs::Fronts::front_twice))]
+#[tactic(auto, using(crate::proofs::TextFronts::front_twice))]
 fn push_next_entry<L: LabelSet, S: Semiring>(
     tapes: usize,
     entry: &Transition<L, S>,

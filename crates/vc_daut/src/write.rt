@@ -14,10 +14,10 @@ use std::alloc::{AllocError, Global};
 use vc_aut::{Automaton, Transition, automata_are_valid};
 use vc_context::{AnyContext, write_context};
 use vc_label::LabelSet;
-use vc_ring::Semiring;
+use vc_ring::{Semiring, Weighed};
 
 /// Appends the weight of a state, with a blank before it; one is not written.
-#[tactic(auto, using(crate::proofs::Fronts::front_twice))]
+#[tactic(auto, using(crate::proofs::TextFronts::front_twice))]
 fn push_behind<S: Semiring>(weight: S::Value, into: &mut String) -> Result<(), AllocError>
     requires { IsTrue (S.set.in_range weight) }
     ensures ok { OnOk result (string_bytes into.new ≡ string_bytes into.old ++ behind_state S.set S.Value.eq S.canonical weight) }
@@ -31,7 +31,7 @@ fn push_behind<S: Semiring>(weight: S::Value, into: &mut String) -> Result<(), A
 }
 
 /// Ends the line of a state with its weight.
-#[tactic(auto, using(crate::proofs::Fronts::front_twice))]
+#[tactic(auto, using(crate::proofs::TextFronts::front_twice))]
 fn push_end<S: Semiring>(weight: S::Value, into: &mut String) -> Result<(), AllocError>
     requires { IsTrue (S.set.in_range weight) }
     ensures ok { OnOk result (string_bytes into.new ≡ string_bytes into.old ++ fed (behind_state S.set S.Value.eq S.canonical weight)) }
@@ -42,7 +42,7 @@ fn push_end<S: Semiring>(weight: S::Value, into: &mut String) -> Result<(), Allo
 }
 
 /// Appends the initial line of a state.
-#[tactic(auto, using(crate::proofs::Fronts::front_twice))]
+#[tactic(auto, using(crate::proofs::TextFronts::front_twice))]
 fn push_initial<L: LabelSet, S: Semiring>(
     aut: &Automaton<L, S>,
     state: u32,
@@ -62,7 +62,7 @@ fn push_initial<L: LabelSet, S: Semiring>(
 }
 
 /// Appends the final line of a state.
-#[tactic(auto, using(crate::proofs::Fronts::front_twice))]
+#[tactic(auto, using(crate::proofs::TextFronts::front_twice))]
 fn push_final<L: LabelSet, S: Semiring>(
     aut: &Automaton<L, S>,
     state: u32,
@@ -82,7 +82,7 @@ fn push_final<L: LabelSet, S: Semiring>(
 }
 
 /// Appends a line of transitions from a state to another.
-#[tactic(auto, using(crate::proofs::Fronts::front_twice))]
+#[tactic(auto, using(crate::proofs::TextFronts::front_twice))]
 fn push_moves<L: LabelSet, S: Semiring>(
     tapes: usize,
     from: u32,
@@ -129,7 +129,7 @@ fn push_by_target<L: LabelSet, S: Semiring>(
 }
 
 /// Appends the lines at the place of a state.
-#[tactic(auto, using(crate::proofs::Fronts::front_twice))]
+#[tactic(auto, using(crate::proofs::TextFronts::front_twice))]
 fn push_state<'a, L: LabelSet, S: Semiring>(
     aut: &'a Automaton<L, S>,
     state: u32,
@@ -183,7 +183,7 @@ fn is_in_lines<L: LabelSet, S: Semiring>(aut: &Automaton<L, S>, state: u32, is_t
 }
 
 /// Appends the line of a state that is in no other line.
-#[tactic(auto, using(crate::proofs::Fronts::front_twice))]
+#[tactic(auto, using(crate::proofs::TextFronts::front_twice))]
 fn push_alone<L: LabelSet, S: Semiring>(
     aut: &Automaton<L, S>,
     state: u32,
@@ -260,14 +260,14 @@ fn push_states<L: LabelSet, S: Semiring>(
 }
 
 /// Appends the canonical text; where there is no memory for it, a front of it.
-#[tactic(auto, using(crate::proofs::Fronts::front_twice))]
+#[tactic(auto, using(crate::proofs::TextFronts::front_twice))]
 fn push_automaton<L: LabelSet, S: Semiring>(
     alloc: Global,
     context: &AnyContext,
     aut: &Automaton<L, S>,
     into: &mut String,
 ) -> Result<(), AllocError>
-    ensures ok { OnOk result (string_bytes into.new ≡ string_bytes into.old ++ automaton_text S.set S.Value.eq S.canonical (tapes_of context.now.labels) context.now.weights aut.now.automaton) }
+    ensures ok { OnOk result (string_bytes into.new ≡ string_bytes into.old ++ automaton_text ⟦<S as Weighed>⟧.texts (tapes_of context.now.labels) context.now.weights aut.now.automaton) }
     ensures front { IsFront (string_bytes into.old) (string_bytes into.new) }
 {
     push_text("context = \"", into)?;
@@ -289,7 +289,7 @@ pub fn write_daut<L: LabelSet, S: Semiring>(
     into: &mut String,
 ) -> Result<(), AllocError>
     requires { tapes_of context.now.labels ≡ aut.now.sets }
-    ensures ok { OnOk result (string_bytes into.new ≡ string_bytes into.old ++ automaton_text S.set S.Value.eq S.canonical aut.now.sets context.now.weights aut.now.automaton) }
+    ensures ok { OnOk result (string_bytes into.new ≡ string_bytes into.old ++ automaton_text ⟦<S as Weighed>⟧.texts aut.now.sets context.now.weights aut.now.automaton) }
     ensures err { OnErr result (string_bytes into.new ≡ string_bytes into.old) }
 {
     let length = into.len();

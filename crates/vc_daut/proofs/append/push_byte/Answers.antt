@@ -1,6 +1,6 @@
 use Rattle.std.proofs.Common.{string_bytes, ◌∷◌, ◌++◌, [], ◌<◌, ◌∙◌, ap, arith}
 use Rattle.std.specs.Prelude.{if◌then◌else◌, is_ok}
-use Rattle.vc_daut.proofs.Fronts.{front_if}
+use Rattle.vc_daut.proofs.TextFronts.{front_if}
 use Rattle.vc_daut.proofs.append.push_byte.Goals as goal
 
 pub returns-clause-front : goal.returns-clause-front

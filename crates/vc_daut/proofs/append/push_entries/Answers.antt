@@ -3,8 +3,8 @@ use Rattle.std.specs.Prelude.{codes}
 use Rattle.vc_aut.specs.Stored.{transition_of}
 use Rattle.vc_daut.specs.Canonical.{entry_text}
 use Rattle.vc_daut.specs.Growing.{IsEntry}
-use Rattle.vc_daut.proofs.Grouped.{lent_at}
-use Rattle.vc_daut.proofs.Printed.{listed_next, text_step}
+use Rattle.vc_daut.proofs.TargetGroups.{lent_at}
+use Rattle.vc_daut.proofs.ListTexts.{listed_next, text_step}
 use Rattle.vc_daut.proofs.append.push_entries.Goals as goal
 
 pub push_entry-requires-clause-tapes : goal.push_entry-requires-clause-tapes

@@ -1,4 +1,4 @@
-use Rattle.vc_daut.proofs.Printed.{letter_below}
+use Rattle.vc_daut.proofs.ListTexts.{letter_below}
 use Rattle.vc_daut.proofs.append.push_part.Goals as goal
 
 pub push_letter-requires : goal.push_letter-requires

@@ -1,5 +1,5 @@
 use Rattle.std.proofs.Common.{string_bytes}
-use Rattle.vc_daut.proofs.Fronts.{front_if}
+use Rattle.vc_daut.proofs.TextFronts.{front_if}
 use Rattle.vc_daut.proofs.append.push_text.Goals as goal
 
 pub returns-clause-front : goal.returns-clause-front

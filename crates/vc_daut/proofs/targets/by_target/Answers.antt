@@ -4,8 +4,8 @@ use Rattle.std.specs.Prelude.{filter, ◌==◌}
 use Rattle.std.specs.List.Sorted.{IsPermutation}
 use Rattle.vc_aut.specs.Stored.{transition_of}
 use Rattle.vc_daut.specs.Growing.{lent}
-use Rattle.vc_daut.proofs.Grouped.{lent_stable}
-use Rattle.vc_daut.proofs.Printed.{take_whole}
+use Rattle.vc_daut.proofs.TargetGroups.{lent_stable}
+use Rattle.vc_daut.proofs.ListTexts.{take_whole}
 use Rattle.vc_daut.proofs.targets.by_target.Goals as goal
 
 pub returns-clause-sorted : goal.returns-clause-sorted

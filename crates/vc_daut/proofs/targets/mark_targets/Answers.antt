@@ -1,7 +1,7 @@
 use Rattle.std.proofs.Common.{refl}
 use Rattle.vc_aut.specs.Stored.{transition_of}
-use Rattle.vc_daut.proofs.Marked.{mark_next}
-use Rattle.vc_daut.proofs.Printed.{mapped_next}
+use Rattle.vc_daut.proofs.MarkedStates.{mark_next}
+use Rattle.vc_daut.proofs.ListTexts.{mapped_next}
 use Rattle.vc_daut.proofs.targets.mark_targets.Goals as goal
 
 pub loop-entry-preserved : goal.loop-entry-preserved

@@ -1,7 +1,7 @@
 use Rattle.std.proofs.Common.{rules, ◌≡◌, false, map, not}
 use Rattle.vc_aut.specs.Stored.{transition_of}
 use Rattle.vc_model.specs.Automata.{initial_weight, final_weight}
-use Rattle.vc_daut.proofs.Marked.{named_target, named_last, length_mapped}
+use Rattle.vc_daut.proofs.MarkedStates.{named_target, named_last, length_mapped}
 use Rattle.vc_daut.proofs.write.is_in_lines.Goals as goal
 
 pub returns-then-is_target : goal.returns-then-is_target

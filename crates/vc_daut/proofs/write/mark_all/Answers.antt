@@ -1,6 +1,6 @@
 use Rattle.std.proofs.Common.{◌∙◌, arith, length}
 use Rattle.vc_aut.specs.Stored.{transition_of}
-use Rattle.vc_daut.proofs.Marked.{marks_first, marks_next, moves_to, marks_end}
+use Rattle.vc_daut.proofs.MarkedStates.{marks_first, marks_next, moves_to, marks_end}
 use Rattle.vc_daut.proofs.write.mark_all.Goals as goal
 
 pub loop-state-init : goal.loop-state-init

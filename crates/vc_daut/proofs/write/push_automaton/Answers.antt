@@ -6,8 +6,8 @@ use Rattle.vc_context.specs.Canonical.{context_text}
 use Rattle.vc_context.specs.Sets.{tapes_of}
 use Rattle.vc_daut.specs.Canonical.{line_text, initial_line, state_lines}
 use Rattle.vc_model.specs.Lists.{below}
-use Rattle.vc_daut.proofs.Chains.{four}
-use Rattle.vc_daut.proofs.Fronts.{front_of, front_twice, five}
+use Rattle.vc_daut.proofs.GrowingTexts.{four}
+use Rattle.vc_daut.proofs.TextFronts.{front_of, front_twice, five}
 use Rattle.vc_daut.proofs.write.push_automaton.Goals as goal
 
 pub returns-clause-ok : goal.returns-clause-ok

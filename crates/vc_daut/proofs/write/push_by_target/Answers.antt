@@ -3,8 +3,8 @@ use Rattle.std.specs.List.{flat_map}
 use Rattle.std.specs.Prelude.{All}
 use Rattle.vc_daut.specs.Canonical.{line_text, lines_by_target}
 use Rattle.vc_daut.specs.Growing.{lent, IsEntry}
-use Rattle.vc_daut.proofs.Chains.{short_tail}
-use Rattle.vc_daut.proofs.Grouped.{front_some, entries_front, left_next, left_end, tail_is, not_none, is_none}
+use Rattle.vc_daut.proofs.GrowingTexts.{short_tail}
+use Rattle.vc_daut.proofs.TargetGroups.{front_some, entries_front, left_next, left_end, tail_is, not_none, is_none}
 use Rattle.vc_daut.proofs.write.push_by_target.Goals as goal
 
 pub push_moves-requires-clause-some : goal.push_moves-requires-clause-some

@@ -2,7 +2,7 @@ use Rattle.std.proofs.Common.{◌++◌, ◌≤◌, length, string_bytes}
 use Rattle.std.specs.List.{flat_map}
 use Rattle.vc_daut.specs.Canonical.{line_text, lines_by_target}
 use Rattle.vc_daut.specs.Growing.{lent}
-use Rattle.vc_daut.proofs.Grouped.{IsLeft}
+use Rattle.vc_daut.proofs.TargetGroups.{IsLeft}
 use Rattle.vc_daut.proofs.write.push_by_target.Given as goal
 
 abbrev pub invariant-loop-rest : goal.invariant-loop-rest

@@ -1,6 +1,6 @@
 use Rattle.std.proofs.Common.{string_bytes}
 use Rattle.vc_daut.specs.Canonical.{line_text, initial_line}
-use Rattle.vc_daut.proofs.Printed.{lines_next}
+use Rattle.vc_daut.proofs.ListTexts.{lines_next}
 use Rattle.vc_daut.proofs.write.push_initials.Goals as goal
 
 pub loop-state-preserved : goal.loop-state-preserved

@@ -1,5 +1,5 @@
 use Rattle.std.proofs.Common.{string_bytes}
-use Rattle.vc_daut.proofs.Fronts.{front_of, front_twice, five, six}
+use Rattle.vc_daut.proofs.TextFronts.{front_of, front_twice, five, six}
 use Rattle.vc_daut.proofs.write.push_moves.Goals as goal
 
 pub returns-clause-ok : goal.returns-clause-ok

@@ -4,7 +4,7 @@ use Rattle.std.specs.Prelude.{All}
 use Rattle.std.specs.List.Sorted.{IsNonDecreasingBy}
 use Rattle.vc_daut.specs.Canonical.{line_text, lines_by_target}
 use Rattle.vc_daut.specs.Growing.{lent, IsEntry}
-use Rattle.vc_daut.proofs.Grouped.{entries_from, same_lines}
+use Rattle.vc_daut.proofs.TargetGroups.{entries_from, same_lines}
 use Rattle.vc_daut.proofs.write.push_transitions.Goals as goal
 
 pub push_by_target-requires-clause-sorted : goal.push_by_target-requires-clause-sorted

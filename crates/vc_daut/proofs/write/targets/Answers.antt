@@ -1,7 +1,7 @@
 use Rattle.std.proofs.Common.{rules, ◌∙◌, ap, length, get_or}
 use Rattle.std.specs.Prelude.{false}
 use Rattle.std.proofs.lemmas.List.{with_items_is}
-use Rattle.vc_daut.proofs.Marked.{none_marked}
+use Rattle.vc_daut.proofs.MarkedStates.{none_marked}
 use Rattle.vc_daut.proofs.write.targets.Goals as goal
 
 pub mark_all-requires-clause-none : goal.mark_all-requires-clause-none

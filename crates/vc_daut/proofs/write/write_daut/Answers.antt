@@ -1,5 +1,5 @@
 use Rattle.std.proofs.Common.{rules, ◌≡◌, length, string_bytes}
-use Rattle.vc_daut.proofs.Chains.{cut_point}
+use Rattle.vc_daut.proofs.GrowingTexts.{cut_point}
 use Rattle.vc_daut.proofs.write.write_daut.Goals as goal
 
 pub truncate-requires : goal.truncate-requires

@@ -1,5 +1,0 @@
-use Rattle.vc_daut.proofs.Weighed.{one_letter}
-use Rattle.vc_daut.proofs.add.add_letter.Goals as goal
-
-pub one-requires : goal.one-requires
-one-requires g c = one_letter c.args.letter c.from_ref.result.now c.from_ref.ensures.value (c.words_are_over_sets.ensures.letters _ _ c.requires.letter)

@@ -1,7 +1,0 @@
-use Rattle.std.proofs.Common.{sym, map}
-use Rattle.vc_daut.specs.Views.{seen, line_seen}
-use Rattle.vc_daut.proofs.Judged.{labels_of}
-use Rattle.vc_daut.proofs.check.check_line.Goals as goal
-
-pub outside_line-requires-clause-labels : goal.outside_line-requires-clause-labels
-outside_line-requires-clause-labels g c = labels_of g.S.Semiring.spelled (map seen c.deref.result.now) (line_seen c.in-Some.line) (sym c.in-Some.ensures.line)

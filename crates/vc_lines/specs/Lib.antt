@@ -1,0 +1,11 @@
+pub mod Pieces
+pub mod Lines
+pub mod Marks
+pub mod Grammar
+pub mod Labels
+pub mod Names
+pub mod Views
+pub mod Classes
+pub mod Heads
+pub mod ContextLines
+pub mod Contexts

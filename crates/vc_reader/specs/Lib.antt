@@ -1,0 +1,11 @@
+pub mod Texts
+pub mod Meaning
+pub mod Classes
+pub mod Spelling
+pub mod Passes
+pub mod Answers
+pub mod NameSets
+pub mod Keys
+pub mod Building
+pub mod Readings
+pub mod Additions
