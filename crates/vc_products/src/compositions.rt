@@ -1,11 +1,12 @@
 ghost use Rattle.std.specs.Prelude.{ℕ, ◌<◌, [], ◌∷◌, ◌≡◌, Bool, false, List, ◌⊎◌, ◌+◌, ◌*◌, ◌≤◌};
-ghost use Rattle.vc_model.specs.Automata.{Automaton, IsAutomaton, future, coefficient, IsSound, NoCircuitOn};
+ghost use Rattle.vc_model.specs.Automata.{Automaton, IsAutomaton, future, coefficient, IsSound, NoCircuitOn, NoEmptyCircuit};
 ghost use Rattle.vc_model.specs.Lists.{NoRepeat};
 ghost use Rattle.vc_model.specs.Series.{Series};
 ghost use Rattle.vc_model.specs.Sums.{sum_over};
 ghost use Rattle.vc_model.specs.WeightSet.{WeightSet, SemiringLaws, Absorbs};
 ghost use Rattle.vc_model.specs.Words.{Tape, size, tapes_within};
 ghost use Rattle.vc_products.specs.Compositions.{IsComposition, composition_within};
+ghost use Rattle.vc_products.specs.JoinMoves.{HasMoves};
 ghost use Rattle.vc_products.specs.Joins.{HasPairs, IsJoin};
 ghost use Rattle.vc_products.specs.Projections.{IsProjection, HasMiddles, outer_tapes};
 
@@ -24,6 +25,16 @@ pub fn joins_have_their_series<V>()
         → IsJoin R A B J left right flag → IsSound R 3 J → (u m v : Tape)
         → coefficient R J (u ∷ m ∷ v ∷ [])
         ≡ R.times (coefficient R A (u ∷ m ∷ [])) (coefficient R B (m ∷ v ∷ [])) }
+{}
+
+/// A join whose transitions are moves of both has no empty circuit where neither automaton has one.
+pub fn joins_are_sound<V>()
+    ensures circuits { (R : WeightSet V) (A B J : Automaton V) → IsAutomaton R 3 J → HasPairs 1 A
+        → HasPairs 0 B → (left right : ℕ → ℕ) → HasMoves A B J left right → NoEmptyCircuit 2 A
+        → NoEmptyCircuit 2 B → NoEmptyCircuit 3 J }
+    ensures sound { (R : WeightSet V) (A B J : Automaton V) → IsAutomaton R 3 J → HasPairs 1 A
+        → HasPairs 0 B → (left right : ℕ → ℕ) → HasMoves A B J left right → IsSound R 2 A
+        → IsSound R 2 B → IsSound R 3 J }
 {}
 
 /// An automaton without its middle tape has the sum over the middle words, from some length on.

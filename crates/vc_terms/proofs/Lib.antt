@@ -6,4 +6,5 @@ pub mod ItemLaws
 pub mod SeriesLaws
 pub mod StarLaws
 pub mod TapeSeries
+pub mod TapeTerms
 pub mod TermLaws

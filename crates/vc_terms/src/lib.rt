@@ -10,4 +10,4 @@ pub use series::{
     atoms_read_labels, products_of_series, series_by_letter, shuffles_of_series, stars_of_series,
     stars_solve_equations, unknowns_leave_systems,
 };
-pub use terms::{constants_of_terms, members_of_terms};
+pub use terms::{constants_of_terms, members_of_terms, tapes_of_terms};
