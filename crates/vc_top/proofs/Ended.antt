@@ -1,26 +1,33 @@
 -- What the status says of the answer.
-use Rattle.std.proofs.Common.{◌≡◌, ◌≢◌, ◌⊎◌, ◌∙◌, ℕ, Option, None, Some, Ok, Err, refl, sym, ap, subst, inl, inr}
+use Rattle.std.proofs.Common.{◌≡◌, ◌≢◌, ◌⊎◌, ◌∙◌, ℕ, List, Option, None, Some, Result, Ok, Err, refl, sym, ap, subst, inl, inr}
 use Rattle.std.specs.Io.KnownBytes.{Appends}
+use Rattle.vc_aut.specs.Labelled.{Labelled}
 use Rattle.vc_command.specs.Requests.{Asked}
-use Rattle.vc_command.specs.Requests as asked
 use Rattle.vc_command.specs.declared.request.RequestFault.{RequestFault}
 use Rattle.vc_command.specs.declared.request.RequestFault.TheVariants as words
-use Rattle.vc_files.specs.Files.{Bytes, Added}
+use Rattle.vc_daut.specs.Heads.{HeadLine}
+use Rattle.vc_files.specs.Files.{Bytes}
 use Rattle.vc_files.specs.Sink.{Rose, AppendsFront}
-use Rattle.vc_top.specs.Answers.{Allows, AllowsFile, IsUsage}
+use Rattle.vc_label.specs.declared.tape_set.TapeSet.{TapeSet}
+use Rattle.vc_model.specs.Lists.{In}
+use Rattle.vc_ring.specs.Texts.{WeightTexts}
+use Rattle.vc_ring.specs.declared.faults.Measure.TheVariants as measure
+use Rattle.vc_top.specs.Answers.{Allows, HasCause, IsUsage, names_of}
 use Rattle.vc_top.specs.Delivery.{Delivers, IsSent, Reports}
+use Rattle.vc_top.specs.Inputs.{Input, IsUnfit, ReadsBytes, ReadsFile, ReadsLines, ReadsText}
 use Rattle.vc_top.specs.Messages.{message}
+use Rattle.vc_top.specs.Outcomes.{Answer, OrMemory}
+use Rattle.vc_top.specs.Plans.{Answers, IsUnbuilt, Plan, files_of, of_file, of_files, of_texts, plan_of, unbuilt}
 use Rattle.vc_top.specs.Reasons.{Reason, status_of, usage, unread, unwritten, syntax, no_label, no_star, empty_circuit, overflow, limit, contexts, order, no_memory}
-use Rattle.vc_top.specs.Refusals.{Answer, OrMemory}
-use Rattle.vc_top.specs.Seen.{Seen}
-use Rattle.vc_top.specs.Tasks.{Task, prints, evaluates}
-use Rattle.vc_ring.specs.declared.faults.Measure.TheVariants.{Bytes as BytesOf}
-use Rattle.vc_top.specs.declared.refusal.Bound.{Bound}
-use Rattle.vc_top.specs.declared.refusal.Bound.TheVariants.{Of}
+use Rattle.vc_top.specs.Rows.{IsRun}
+use Rattle.vc_top.specs.Seen.{HasFailed, Seen}
+use Rattle.vc_top.specs.Sets.{texts_of}
+use Rattle.vc_top.specs.Views.{reason_of_words}
+use Rattle.vc_top.specs.declared.refusal.Bound.TheVariants.{Of, Words}
 use Rattle.vc_top.specs.declared.status.Status.{Status}
 use Rattle.vc_top.specs.declared.status.Status.TheVariants as status
-use Rattle.vc_top.specs.Views.{reason_of_words}
-use Rattle.vc_top.proofs.Kept.{IsKept, IsTextReason, file_kept, context_kept}
+use Rattle.vc_top.proofs.Commands.{IsLawfulPlan, IsTextReason}
+use Rattle.vc_top.proofs.Lawful.{IsKept}
 
 -- the reasons of a status, where they matter here
 abbrev IsReasonOf : Status → Reason → Type 0
@@ -47,79 +54,100 @@ own no_memory = tt
 reason_is : (s : Status) (r : Reason) → s ≡ status_of r → IsReasonOf s r
 reason_is s r e = subst (λ x. IsReasonOf x r) (sym e) (own r)
 
--- a reason that no text is refused for
-abbrev IsElse : Reason → Type 0
-IsElse r = (IsTextReason r → ⊥) × (r ≢ no_memory)
-
-abbrev refused : Reason → Answer
+abbrev refused : {X : Type 0} → Reason → Result X Reason
 refused reason = Err reason
 
-same_reason : (x y : Reason) → refused x ≡ refused y → x ≡ y
+same_reason : {X : Type 0} (x y : Reason) → refused {X = X} x ≡ refused y → x ≡ y
 same_reason x y h = cc h
 
-no_text : (r : Reason) (P : Answer → Type 0) → IsElse r → ((a : Answer) → P a → IsKept a) → OrMemory P (Err r) → ⊥
-no_text r P n k (inl e) = n.1 (same_reason r no_memory e)
-no_text r P n k (inr p) = n.0 (k (Err r) p)
+no_given : {X : Type 0} (x : X) (r : Reason) → refused r ≡ Ok x → ⊥
+no_given x r e = cc e
 
--- a request never allows these reasons, or only where it gives none
+-- for which reasons the lines of a file are refused, and its text
+module _ {V : Type 0} (T : WeightTexts V) (file : Bytes) (sets : List TapeSet) (h : HeadLine) where
+  unfit_reason : (reason : Reason) → IsUnfit T sets h reason → IsTextReason reason
+  unfit_reason reason (inl p) = subst IsTextReason (sym p.0) tt
+  unfit_reason reason (inr (inl p)) = subst IsTextReason (sym p.0) tt
+  unfit_reason reason (inr (inr p)) = subst IsTextReason (sym p.0) tt
+
+  lines_kept : (r : Result (Labelled V) Reason) → ReadsLines T file sets h r → IsKept IsTextReason r
+  lines_kept r (inl p) = subst (IsKept IsTextReason) (sym p.2) tt
+  lines_kept r (inr (n, inl p)) = subst (IsKept IsTextReason) (sym p.2) tt
+  lines_kept r (inr (n, inr (m, inl p))) = subst (IsKept IsTextReason) (sym p.2) (unfit_reason p.0 p.1)
+  lines_kept r (inr (n, inr (m, inr p))) = subst (IsKept IsTextReason) (sym p.1.2) tt
+
+text_kept : (file bytes : Bytes) (r : Result Input Reason) → ReadsText file bytes r → IsKept IsTextReason r
+text_kept file bytes r (inl p) = subst (IsKept IsTextReason) (sym p.1) tt
+text_kept file bytes r (inr (f, h, inl p)) = subst (IsKept IsTextReason) (sym p.2) (lines_kept (texts_of f.weights) file f.sets f.head (Err p.0) p.1)
+text_kept file bytes r (inr (f, h, inr p)) = subst (IsKept IsTextReason) (sym p.2) tt
+
+-- what a reason says of the plan, and of the files
 module _ (seen : Seen) where
-  file_else : (file : Bytes) (task : Task) (r : Reason) → IsElse r → AllowsFile seen file task (Err r) → (r ≡ unread file) × Added seen.before seen.after
-  file_else file task r n (inl e) = absurd (no_text r (λ a. ⊥) n (λ a p. absurd p) (inl e))
-  file_else file task r n (inr (inl p)) = (same_reason r (unread file) p.0, p.1)
-  file_else file task r n (inr (inr (bytes, t, inl p))) = absurd (limited r n (Of BytesOf) p.1)
-    where
-      limited : (x : Reason) → IsElse x → (b : Bound) → refused x ≡ refused (limit b) → ⊥
-      limited x m b h = m.0 (subst IsTextReason (sym (same_reason x (limit b) h)) tt)
-  file_else file task r n (inr (inr (bytes, t, inr p))) = absurd (n.0 (file_kept file task bytes (Err r) p.1))
+  text_cause : (plan : Plan) (r : Reason) → IsTextReason r → HasCause plan seen r
+  text_cause plan usage t = absurd t
+  text_cause plan (unread file) t = absurd t
+  text_cause plan unwritten t = absurd t
+  text_cause plan (syntax spot) t = tt
+  text_cause plan (no_label spot) t = tt
+  text_cause plan no_star t = tt
+  text_cause plan empty_circuit t = tt
+  text_cause plan overflow t = tt
+  text_cause plan (limit (Of measure.Bytes)) t = absurd t
+  text_cause plan (limit (Of measure.Depth)) t = tt
+  text_cause plan (limit (Of measure.States)) t = tt
+  text_cause plan (limit (Of measure.Transitions)) t = tt
+  text_cause plan (limit (Of measure.Closure)) t = tt
+  text_cause plan (limit (Of measure.Cells)) t = tt
+  text_cause plan (limit (Of measure.Nodes)) t = tt
+  text_cause plan (limit Words) t = tt
+  text_cause plan contexts t = tt
+  text_cause plan order t = tt
+  text_cause plan no_memory t = tt
 
-  no_write : (request : Option Asked) → Allows request seen (Err unwritten) → ⊥
-  no_write (Some (asked.context text)) p = no_text unwritten _ ((λ t. t), λ e. cc e) (context_kept text) p
-  no_write (Some (asked.cat file)) p = let e = (file_else file prints unwritten ((λ t. t), λ e. cc e) p).0 in cc e
-  no_write (Some (asked.eval_file file word)) p = let e = (file_else file (evaluates word) unwritten ((λ t. t), λ e. cc e) p).0 in cc e
-  no_write other (inl e) = cc e
-  no_write other (inr e) = cc e
+  bytes_cause : (plan : Plan) (file : Bytes) → In file (files_of plan) → (r : Reason) → ReadsBytes seen file (Err r) → HasCause plan seen r
+  bytes_cause plan file i r (inl p) = subst (HasCause plan seen) (sym (same_reason r (unread file) p.0)) (i, p.1)
+  bytes_cause plan file i r (inr (bytes, t, inl p)) = subst (HasCause plan seen) (sym (same_reason r (limit (Of measure.Bytes)) p.1)) (file, i, (bytes, t, p.0))
+  bytes_cause plan file i r (inr (bytes, t, inr p)) = absurd (no_given bytes r p.1)
 
-  only_usage : (request : Option Asked) → Allows request seen (Err usage) → IsUsage request
-  only_usage (Some (asked.context text)) p = no_text usage _ ((λ t. t), λ e. cc e) (context_kept text) p
-  only_usage (Some (asked.cat file)) p = let e = (file_else file prints usage ((λ t. t), λ e. cc e) p).0 in cc e
-  only_usage (Some (asked.eval_file file word)) p = let e = (file_else file (evaluates word) usage ((λ t. t), λ e. cc e) p).0 in cc e
-  only_usage other p = tt
+  file_cause : (plan : Plan) (file : Bytes) → In file (files_of plan) → (r : Reason) → ReadsFile seen file (Err r) → HasCause plan seen r
+  file_cause plan file i r (inl p) = subst (HasCause plan seen) (sym (same_reason r p.0 p.2)) (bytes_cause plan file i p.0 p.1)
+  file_cause plan file i r (inr p) = text_cause plan r (text_kept file p.0 (Err r) p.2)
 
-  was_unread : (request : Option Asked) (name : Bytes) → Allows request seen (Err (unread name)) → Added seen.before seen.after
-  was_unread (Some (asked.context text)) name p = absurd (no_text (unread name) _ ((λ t. t), λ e. cc e) (context_kept text) p)
-  was_unread (Some (asked.cat file)) name p = (file_else file prints (unread name) ((λ t. t), λ e. cc e) p).1
-  was_unread (Some (asked.eval_file file word)) name p = (file_else file (evaluates word) (unread name) ((λ t. t), λ e. cc e) p).1
-  was_unread other name (inl e) = absurd (cc e)
-  was_unread other name (inr e) = absurd (cc e)
+  module _ (Open : Type 0) where
+    answer_cause : (plan : Plan) → IsLawfulPlan Open plan → (r : Reason) → Answers plan seen (Err r) → HasCause plan seen r
+    answer_cause unbuilt l r p = subst (HasCause unbuilt seen) (sym (same_reason r usage p)) tt
+    answer_cause (of_texts texts) l r p = text_cause (of_texts texts) r (l.kept (Err r) p)
+    answer_cause (of_file file rest) l r (inl p) = subst (HasCause (of_file file rest) seen) (sym (same_reason r p.0 p.2)) (file_cause (of_file file rest) file (inl refl) p.0 p.1)
+    answer_cause (of_file file rest) l r (inr p) = text_cause (of_file file rest) r ((l p.0).kept (Err r) p.2)
+    answer_cause (of_files first second rest) l r (inl p) = subst (HasCause (of_files first second rest) seen) (sym (same_reason r p.0 p.2)) (file_cause (of_files first second rest) first (inl refl) p.0 p.1)
+    answer_cause (of_files first second rest) l r (inr (x, p, inl q)) = subst (HasCause (of_files first second rest) seen) (sym (same_reason r q.0 q.2)) (file_cause (of_files first second rest) second (inr (inl refl)) q.0 q.1)
+    answer_cause (of_files first second rest) l r (inr (x, p, inr q)) = text_cause (of_files first second rest) r ((l x q.0).kept (Err r) q.2)
 
-  -- want of memory is always allowed
-  for_memory : (request : Option Asked) → Allows request seen (Err no_memory)
-  for_memory (Some (asked.context text)) = inl refl
-  for_memory (Some (asked.cat file)) = inl refl
-  for_memory (Some (asked.eval_file file word)) = inl refl
-  for_memory other = inl refl
+    ending : (request : Option Asked) → IsLawfulPlan Open (plan_of request) → (r : Reason) → Allows request seen (Err r) → HasCause (plan_of request) seen r
+    ending request l r (inl e) = subst (HasCause (plan_of request) seen) (sym (same_reason r no_memory e)) tt
+    ending request l r (inr p) = answer_cause (plan_of request) l r p
 
   -- words that give no request
   pub words_refused : (request : Option Asked) (f : RequestFault) → (f ≡ words.Usage → request ≡ None) → Allows request seen (Err (reason_of_words f))
   words_refused request words.Usage n = subst (λ r. Allows r seen (Err usage)) (sym (n refl)) (inr refl)
-  words_refused request (words.Memory e) n = for_memory request
+  words_refused request (words.Memory e) n = inl refl
 
   -- an answer to no request
-  for_usage : (request : Option Asked) (a : Answer) → IsUsage request → Allows request seen a → (a ≡ Err no_memory) ⊎ (a ≡ Err usage)
-  for_usage (Some (asked.context text)) a u p = absurd u
-  for_usage (Some (asked.cat file)) a u p = absurd u
-  for_usage (Some (asked.eval_file file word)) a u p = absurd u
-  for_usage other a u p = p
+  for_usage : (plan : Plan) (a : Answer) → IsUnbuilt plan → OrMemory (Answers plan seen) a → (a ≡ Err no_memory) ⊎ (a ≡ Err usage)
+  for_usage unbuilt a u p = p
+  for_usage (of_texts texts) a u p = absurd u
+  for_usage (of_file file rest) a u p = absurd u
+  for_usage (of_files first second rest) a u p = absurd u
 
-  module _ (request : Option Asked) (ended : Status) (old new told now : Option Bytes) (before after first last : ℕ) where
-    pub ended_printed : (a : Answer) (left : Option Reason) → Allows request seen a → Delivers a left old new before after → Reports left ended told now first last
+  module _ (Open : Type 0) (request : Option Asked) (lawful : IsLawfulPlan Open (plan_of request)) (ended : Status) (old new told now : Option Bytes) (before after first last : ℕ) where
+    ended_printed : (a : Answer) (left : Option Reason) → Allows request seen a → Delivers a left old new before after → Reports left ended told now first last
         → ended ≡ status.Done → (text : Bytes) × Allows request seen (Ok text) × Appends old new text
     ended_printed (Ok text) None p d r e = (text, p, d)
     ended_printed (Ok text) (Some reason) p d r e = absurd (reason_is status.Done reason (sym e ∙ r.0))
     ended_printed (Err x) None p d r e = absurd d
     ended_printed (Err x) (Some reason) p d r e = absurd (reason_is status.Done reason (sym e ∙ r.0))
 
-    pub ended_front : (a : Answer) (left : Option Reason) → Allows request seen a → Delivers a left old new before after → Reports left ended told now first last
+    ended_front : (a : Answer) (left : Option Reason) → Allows request seen a → Delivers a left old new before after → Reports left ended told now first last
         → ended ≡ status.WriteFault → (text : Bytes) × Allows request seen (Ok text) × AppendsFront old new text × IsSent (message unwritten) told now first last
     ended_front (Ok text) None p d r e = absurd (cc (sym e ∙ r.0))
     ended_front (Ok text) (Some reason) p d r e = front reason (reason_is status.WriteFault reason (sym e ∙ r.0)) d r.1
@@ -129,10 +157,10 @@ module _ (seen : Seen) where
         front unwritten h k s = (text, p, k.0, s)
         front other h k s = absurd k
     ended_front (Err x) None p d r e = absurd d
-    ended_front (Err x) (Some reason) p d r e = absurd (no_write request (subst (λ y. Allows request seen (Err y)) (sym d.0 ∙ reason_is status.WriteFault reason (sym e ∙ r.0)) p))
+    ended_front (Err x) (Some reason) p d r e = absurd (ending Open request lawful unwritten (subst (λ y. Allows request seen (Err y)) (sym d.0 ∙ reason_is status.WriteFault reason (sym e ∙ r.0)) p))
 
-    pub ended_cause : (a : Answer) (left : Option Reason) → Allows request seen a → Delivers a left old new before after → Reports left ended told now first last
-        → ended ≢ status.Done → ended ≢ status.WriteFault → (reason : Reason) × (ended ≡ status_of reason) × Allows request seen (Err reason) × IsSent (message reason) told now first last
+    ended_cause : (a : Answer) (left : Option Reason) → Allows request seen a → Delivers a left old new before after → Reports left ended told now first last
+        → ended ≢ status.Done → ended ≢ status.WriteFault → (reason : Reason) × (ended ≡ status_of reason) × Allows request seen (Err reason) × HasCause (plan_of request) seen reason × IsSent (message reason) told now first last
     ended_cause (Ok text) None p d r m n = absurd (m r.0)
     ended_cause (Ok text) (Some reason) p d r m n = absurd (fault reason d r.0)
       where
@@ -140,9 +168,9 @@ module _ (seen : Seen) where
         fault unwritten k h = n h
         fault other k h = k
     ended_cause (Err x) None p d r m n = absurd d
-    ended_cause (Err x) (Some reason) p d r m n = (reason, r.0, subst (λ y. Allows request seen (Err y)) (sym d.0) p, r.1)
+    ended_cause (Err x) (Some reason) p d r m n = let k = subst (λ y. Allows request seen (Err y)) (sym d.0) p in (reason, r.0, k, ending Open request lawful reason k, r.1)
 
-    pub ended_nothing : (a : Answer) (left : Option Reason) → Delivers a left old new before after → Reports left ended told now first last
+    ended_nothing : (a : Answer) (left : Option Reason) → Delivers a left old new before after → Reports left ended told now first last
         → ended ≢ status.Done → ended ≢ status.WriteFault → new ≡ old
     ended_nothing (Ok text) None d r m n = absurd (m r.0)
     ended_nothing (Ok text) (Some reason) d r m n = absurd (fault reason d r.0)
@@ -153,7 +181,11 @@ module _ (seen : Seen) where
     ended_nothing (Err x) None d r m n = absurd d
     ended_nothing (Err x) (Some reason) d r m n = d.1
 
-    pub ended_usage : (a : Answer) (left : Option Reason) → Allows request seen a → Delivers a left old new before after → Reports left ended told now first last
+    ended_silent : (a : Answer) (left : Option Reason) → Delivers a left old new before after → Reports left ended told now first last → ended ≡ status.Done → (now ≡ told) × (last ≡ first)
+    ended_silent a None d r e = (r.1, r.2)
+    ended_silent a (Some reason) d r e = absurd (reason_is status.Done reason (sym e ∙ r.0))
+
+    ended_usage : (a : Answer) (left : Option Reason) → Allows request seen a → Delivers a left old new before after → Reports left ended told now first last
         → ended ≡ status.Usage → IsUsage request
     ended_usage (Ok text) None p d r e = absurd (cc (sym e ∙ r.0))
     ended_usage (Ok text) (Some reason) p d r e = absurd (fault reason (reason_is status.Usage reason (sym e ∙ r.0)) d)
@@ -162,11 +194,11 @@ module _ (seen : Seen) where
         fault unwritten h k = cc h
         fault other h k = k
     ended_usage (Err x) None p d r e = absurd d
-    ended_usage (Err x) (Some reason) p d r e = only_usage request (subst (λ y. Allows request seen (Err y)) (sym d.0 ∙ reason_is status.Usage reason (sym e ∙ r.0)) p)
+    ended_usage (Err x) (Some reason) p d r e = ending Open request lawful usage (subst (λ y. Allows request seen (Err y)) (sym d.0 ∙ reason_is status.Usage reason (sym e ∙ r.0)) p)
 
-    pub ended_asked : (a : Answer) (left : Option Reason) → Allows request seen a → Delivers a left old new before after → Reports left ended told now first last
+    ended_asked : (a : Answer) (left : Option Reason) → Allows request seen a → Delivers a left old new before after → Reports left ended told now first last
         → IsUsage request → (ended ≡ status.Usage) ⊎ (ended ≡ status.Memory)
-    ended_asked a left p d r u = go a left (for_usage request a u p) d r
+    ended_asked a left p d r u = go a left (for_usage (plan_of request) a u p) d r
       where
         go : (x : Answer) (l : Option Reason) → (x ≡ refused no_memory) ⊎ (x ≡ refused usage) → Delivers x l old new before after → Reports l ended told now first last → (ended ≡ status.Usage) ⊎ (ended ≡ status.Memory)
         go (Ok text) l (inl e) k h = absurd (cc e)
@@ -175,8 +207,8 @@ module _ (seen : Seen) where
         go (Err x) (Some reason) (inl e) k h = inr (h.0 ∙ ap status_of (k.0 ∙ same_reason x no_memory e))
         go (Err x) (Some reason) (inr e) k h = inl (h.0 ∙ ap status_of (k.0 ∙ same_reason x usage e))
 
-    pub ended_unread : (a : Answer) (left : Option Reason) → Allows request seen a → Delivers a left old new before after → Reports left ended told now first last
-        → ended ≡ status.ReadFault → Added seen.before seen.after
+    ended_unread : (a : Answer) (left : Option Reason) → Allows request seen a → Delivers a left old new before after → Reports left ended told now first last
+        → ended ≡ status.ReadFault → (file : Bytes) × In file (names_of request) × HasFailed seen file × IsSent (message (unread file)) told now first last
     ended_unread (Ok text) None p d r e = absurd (cc (sym e ∙ r.0))
     ended_unread (Ok text) (Some reason) p d r e = absurd (fault reason (reason_is status.ReadFault reason (sym e ∙ r.0)) d)
       where
@@ -184,9 +216,12 @@ module _ (seen : Seen) where
         fault unwritten h k = cc h.1
         fault other h k = k
     ended_unread (Err x) None p d r e = absurd d
-    ended_unread (Err x) (Some reason) p d r e = let u = reason_is status.ReadFault reason (sym e ∙ r.0) in was_unread request u.0 (subst (λ y. Allows request seen (Err y)) (sym d.0 ∙ u.1) p)
+    ended_unread (Err x) (Some reason) p d r e =
+        let u = reason_is status.ReadFault reason (sym e ∙ r.0) in
+        let k = ending Open request lawful (unread u.0) (subst (λ y. Allows request seen (Err y)) (sym d.0 ∙ u.1) p) in
+        (u.0, k.0, k.1, subst (λ y. IsSent (message y) told now first last) u.1 r.1)
 
-    pub ended_rose : (a : Answer) (left : Option Reason) → Allows request seen a → Delivers a left old new before after → Reports left ended told now first last
+    ended_rose : (a : Answer) (left : Option Reason) → Allows request seen a → Delivers a left old new before after → Reports left ended told now first last
         → ended ≡ status.WriteFault → Rose before after
     ended_rose (Ok text) None p d r e = absurd (cc (sym e ∙ r.0))
     ended_rose (Ok text) (Some reason) p d r e = rose reason d
@@ -195,4 +230,19 @@ module _ (seen : Seen) where
         rose unwritten k = k.1
         rose other k = absurd k
     ended_rose (Err x) None p d r e = absurd d
-    ended_rose (Err x) (Some reason) p d r e = absurd (no_write request (subst (λ y. Allows request seen (Err y)) (sym d.0 ∙ reason_is status.WriteFault reason (sym e ∙ r.0)) p))
+    ended_rose (Err x) (Some reason) p d r e = absurd (ending Open request lawful unwritten (subst (λ y. Allows request seen (Err y)) (sym d.0 ∙ reason_is status.WriteFault reason (sym e ∙ r.0)) p))
+
+    pub ends : (a : Answer) (left : Option Reason) → Allows request seen a → Delivers a left old new before after → Reports left ended told now first last
+        → IsRun request seen ended (record { old = old; new = new; before = before; after = after }) (record { old = told; new = now; before = first; after = last })
+    ends a left p d r = record {
+      answer = (a, left, p, d, r);
+      printed = ended_printed a left p d r;
+      front = ended_front a left p d r;
+      cause = ended_cause a left p d r;
+      nothing = ended_nothing a left d r;
+      silent = ended_silent a left d r;
+      usage = ended_usage a left p d r;
+      asked = ended_asked a left p d r;
+      read_fault = ended_unread a left p d r;
+      write_fault = ended_rose a left p d r;
+    }

@@ -1,5 +1,5 @@
 -- A request allows one answer over files that tell.
-use Rattle.std.proofs.Common.{◌≡◌, ◌⊎◌, ◌<◌, ℕ, ℤ, List, [], ◌∷◌, ◌++◌, length, Bool, Option, Some, Result, Ok, Err, sym, ap, ap₂, ◌∙◌, inl, inr, subst}
+use Rattle.std.proofs.Common.{◌≡◌, ◌∙◌, ◌+◌, ◌<◌, ℕ, ℤ, List, length, Bool, Option, None, Some, Result, Ok, Err, refl, sym, ap, subst, inl, inr}
 use Rattle.vc_aut.specs.Labelled.{Labelled}
 use Rattle.vc_basic.specs.ResidueLaws.{residue_laws}
 use Rattle.vc_basic.specs.TropicalLaws.{tropical_laws}
@@ -7,8 +7,6 @@ use Rattle.vc_basic.specs.TruthLaws.{truth_laws}
 use Rattle.vc_basic.specs.WholeLaws.{whole_laws}
 use Rattle.vc_basic.specs.declared.tropical.NminValue.{NminValue}
 use Rattle.vc_command.specs.Requests.{Asked}
-use Rattle.vc_command.specs.Requests as asked
-use Rattle.vc_context.specs.Canonical.{context_text as text_of_context}
 use Rattle.vc_context.specs.Spelling.{SpellsContext}
 use Rattle.vc_context.specs.declared.context.Weights.{Weights}
 use Rattle.vc_context.specs.declared.context.Weights.TheVariants.{B, F2, Z, Q, Nmin}
@@ -18,8 +16,9 @@ use Rattle.vc_daut.specs.Contexts.{context_text}
 use Rattle.vc_daut.specs.Heads.{HeadLine, head_line}
 use Rattle.vc_daut.specs.Lines.{lines_of}
 use Rattle.vc_daut.specs.Readings.{IsSameReading}
-use Rattle.vc_daut.specs.Spelling.{Spells}
+use Rattle.vc_daut.specs.Spelling.{Spells, bad_line}
 use Rattle.vc_daut.specs.declared.fault.DautFault.{DautFault}
+use Rattle.vc_daut.specs.declared.fault.DautFault.TheVariants as fault
 use Rattle.vc_files.specs.Files.{Bytes, Held, Holds}
 use Rattle.vc_label.specs.declared.tape_set.TapeSet.{TapeSet}
 use Rattle.vc_model.specs.Automata.{Automaton}
@@ -27,16 +26,29 @@ use Rattle.vc_model.specs.WeightSet.{WeightSet, SemiringLaws}
 use Rattle.vc_rat.specs.RationalLaws.{rational_laws}
 use Rattle.vc_rat.specs.declared.fraction.Fraction.{Fraction}
 use Rattle.vc_ring.specs.declared.faults.Measure.TheVariants.{Bytes as BytesOf}
-use Rattle.vc_top.specs.Answers.{Allows, AllowsFile, IsFree, IsSameAnswer, most_bytes}
-use Rattle.vc_top.specs.Contexts.{AnswersContext, IsContext}
-use Rattle.vc_top.specs.Inputs.{HasContext, Headed, WithAutomaton}
-use Rattle.vc_top.specs.Reasons.{in_context, limit, syntax, usage}
-use Rattle.vc_top.specs.Refusals.{Answer, OrMemory, Unless}
-use Rattle.vc_top.specs.Seen.{seen}
-use Rattle.vc_top.specs.Sets.{InSet, WeightTexts, truth_weights, residue_weights, whole_weights, fraction_weights, tropical_weights}
-use Rattle.vc_top.specs.Tasks.{AnswersFile, AnswersTask, Task, prints, evaluates}
+use Rattle.vc_ring.specs.Texts.{WeightTexts}
+use Rattle.vc_top.specs.Answers.{Agree, Allows, AreOfOnePart, IsFree, IsPastReason}
+use Rattle.vc_top.specs.Inputs.{HasContext, Headed, IsBadLine, IsForeignLabel, IsReading, IsUnfit, SpellsLines, ReadsBytes, ReadsFile, ReadsLines, ReadsText, most_bytes}
+use Rattle.vc_top.specs.Outcomes.{Answer, Gives, Then, Unless}
+use Rattle.vc_top.specs.Plans.{Answers, IsOpen, Plan, of_file, of_files, of_texts, plan_of, unbuilt}
+use Rattle.vc_top.specs.Reasons.{Reason, in_line, limit, no_label, syntax}
+use Rattle.vc_top.specs.Seen.{Seen, seen}
+use Rattle.vc_top.specs.Sets.{texts_of, truth_weights, residue_weights, whole_weights, fraction_weights, tropical_weights}
 use Rattle.vc_top.specs.declared.refusal.Bound.TheVariants.{Of}
-use Rattle.vc_top.proofs.Determined.{automaton_same, one_same, task_same, unless_same}
+use Rattle.vc_top.proofs.Commands.{IsLawfulPlan, IsTextReason, one_context, plans_are_lawful}
+use Rattle.vc_top.proofs.Lawful.{Alike, IsKept, IsLawful, after, any, for_such, gives, unless, with_one}
+use Rattle.vc_top.proofs.Parts.{AgreeBy, after_part, of_part}
+
+-- any reason
+abbrev Every : Reason → Type 0
+Every reason = Unit {0}
+
+every_kept : {X : Type 0} (a : Result X Reason) → IsKept Every a
+every_kept (Ok x) = tt
+every_kept (Err reason) = tt
+
+some_same : {X : Type 0} (o : Option X) (x y : X) → o ≡ Some x → o ≡ Some y → x ≡ y
+some_same o x y p q = cc (sym p ∙ q)
 
 -- texts spell at most one automaton over these elements
 abbrev pub OneAutomaton : Type 0 → Type 0
@@ -47,17 +59,46 @@ abbrev pub AreApart : Type 0 → Type 0
 AreApart V = (R : WeightSet V) (same : V → V → Bool) (spelled : List ℕ → Option V) (fit : List ℕ → Bool) (sets : List TapeSet) (h : HeadLine) (x y : Result (Labelled V) (DautFault V))
     → IsReadBehind R same spelled fit sets h x → IsReadBehind R same spelled fit sets h y → IsSameReading x y
 
+-- the lines of a file
+module _ {V : Type 0} (T : WeightTexts V)
+    (one : (sets : List TapeSet) (texts : List Bytes) (A C : Automaton V) → Spells T.set T.spelled sets texts A → Spells T.set T.spelled sets texts C → A ≡ C)
+    (apart : (sets : List TapeSet) (h : HeadLine) (x y : Result (Labelled V) (DautFault V)) → IsReading T sets h x → IsReading T sets h y → IsSameReading x y)
+    (file : Bytes) (sets : List TapeSet) (h : HeadLine) where
+  no_bad_line : (o : Option ℕ) → ((x : ℕ) → ¬ (o ≡ Some x)) → o ≡ None
+  no_bad_line None k = refl
+  no_bad_line (Some x) k = absurd (k x refl)
+
+  abbrev line_number : Result (Labelled V) (DautFault V) → ℕ
+  line_number (Err (fault.NotALabel line from to)) = line
+  line_number other = 0
+
+  abbrev no_label_at : ℕ × (ℕ × ℕ) → Result (Labelled V) (DautFault V)
+  no_label_at x = Err (fault.NotALabel x.0 x.1.0 x.1.1)
+
+  labels_alike : bad_line T.spelled (h.number + 1) h.behind ≡ None → (x y : ℕ × (ℕ × ℕ)) → IsForeignLabel T sets h x → IsForeignLabel T sets h y → Alike {X = Labelled V} ⊥ (Err (no_label (in_line file x.0))) (Err (no_label (in_line file y.0)))
+  labels_alike n x y p q = go (apart sets h (no_label_at x) (no_label_at y) (n, p) (n, q))
+    where
+      go : IsSameReading (no_label_at x) (no_label_at y) → Alike {X = Labelled V} ⊥ (Err (no_label (in_line file x.0))) (Err (no_label (in_line file y.0)))
+      go (inl (inl m)) = absurd m
+      go (inl (inr m)) = absurd m
+      go (inr (inl k)) = inr (inl (ap (λ m. Err (no_label (in_line file m))) (ap line_number k)))
+      go (inr (inr m)) = absurd m.0
+
+  unfit_past : (x : Reason) → IsUnfit T sets h x → IsPastReason x
+  unfit_past x (inl p) = subst IsPastReason (sym p.0) tt
+  unfit_past x (inr (inl p)) = subst IsPastReason (sym p.0) tt
+  unfit_past x (inr (inr p)) = subst IsPastReason (sym p.0) tt
+
+  lines : IsLawful Every ⊥ (ReadsLines T file sets h)
+  lines =
+      any Every ⊥ (IsBadLine T h) (λ line. syntax (in_line file line)) _ (λ x p. tt)
+      (λ x y p q. inr (inl (ap (λ n. Err (syntax (in_line file n))) (some_same (bad_line T.spelled (h.number + 1) h.behind) x y p q)))) (λ n.
+      any Every ⊥ (IsForeignLabel T sets h) (λ p. no_label (in_line file p.0)) _ (λ x p. tt) (labels_alike (no_bad_line (bad_line T.spelled (h.number + 1) h.behind) n)) (λ m.
+      any Every ⊥ (IsUnfit T sets h) (λ reason. reason) _ (λ x p. tt) (λ x y p q. inr (inr (inl (unfit_past x p, unfit_past y q)))) (λ k.
+      for_such Every ⊥ (SpellsLines T sets h) _ (one sets h.behind) (λ A. gives Every ⊥ _))))
+
 abbrev headed : HeadLine → List TapeSet → Weights → Headed
 headed h sets weights = record { head = h; sets = sets; weights = weights }
-
-some_same : {X : Type 0} (o : Option X) (x y : X) → o ≡ Some x → o ≡ Some y → x ≡ y
-some_same o x y p q = cc (sym p ∙ q)
-
--- two answers, of which none is want of memory
-or_memory : (P : Answer → Type 0) (a b : Answer) → OrMemory P a → OrMemory P b → (P a → P b → IsSameAnswer a b) → (IsFree a ⊎ IsFree b) ⊎ IsSameAnswer a b
-or_memory P a b (inl m) q f = inl (inl (subst IsFree (sym m) tt))
-or_memory P a b p (inl m) f = inl (inr (subst IsFree (sym m) tt))
-or_memory P a b (inr p) (inr q) f = inr (f p q)
 
 module _
     (read : (line text : Bytes) → IsContextLine line text → context_text line ≡ Some text)
@@ -71,46 +112,48 @@ module _
       let k = contexts q.text f.sets g.sets f.weights g.weights (subst (λ x. SpellsContext x f.sets f.weights) t p.spells) q.spells in
       ap (λ h. headed h f.sets f.weights) e ∙ ap (λ s. headed g.head s f.weights) k.0 ∙ ap (λ w. headed g.head g.sets w) k.1
 
-  module _ (a b : Answer) (file : Bytes) (task : Task) where
-    arm_same : {V : Type 0} (T : WeightTexts V) → SemiringLaws T.set → OneAutomaton V → AreApart V → (sets : List TapeSet) (weights : Weights) (h : HeadLine)
-        → WithAutomaton T file sets h a (λ A. AnswersTask T sets weights task A a) → WithAutomaton T file sets h b (λ A. AnswersTask T sets weights task A b) → IsSameAnswer a b
-    arm_same T L one apart sets weights h p q =
-        automaton_same T (one T.set L T.spelled) (apart T.set T.same T.spelled T.numbers_fit) a b file sets h
-        (λ A. AnswersTask T sets weights task A a) (λ A. AnswersTask T sets weights task A b) p q
-        (task_same T (one T.set L T.spelled) (apart T.set T.same T.spelled T.numbers_fit) a b sets weights task)
+  lines_over : {V : Type 0} (T : WeightTexts V) → SemiringLaws T.set → OneAutomaton V → AreApart V → (file : Bytes) (sets : List TapeSet) (h : HeadLine) → IsLawful Every ⊥ (ReadsLines T file sets h)
+  lines_over T L one apart file sets h = lines T (one T.set L T.spelled) (apart T.set T.same T.spelled T.numbers_fit) file sets h
 
-    set_same : (w : Weights) (sets : List TapeSet) (weights : Weights) (h : HeadLine)
-        → InSet w (λ V T. WithAutomaton T file sets h a (λ A. AnswersTask T sets weights task A a)) → InSet w (λ V T. WithAutomaton T file sets h b (λ A. AnswersTask T sets weights task A b)) → IsSameAnswer a b
-    set_same B sets weights h p q = arm_same truth_weights truth_laws truths truths_apart sets weights h p q
-    set_same F2 sets weights h p q = arm_same residue_weights residue_laws truths truths_apart sets weights h p q
-    set_same Z sets weights h p q = arm_same whole_weights whole_laws wholes wholes_apart sets weights h p q
-    set_same Q sets weights h p q = arm_same fraction_weights rational_laws fractions fractions_apart sets weights h p q
-    set_same Nmin sets weights h p q = arm_same tropical_weights tropical_laws costs costs_apart sets weights h p q
+  lines_of_set : (w : Weights) (file : Bytes) (sets : List TapeSet) (h : HeadLine) → IsLawful Every ⊥ (ReadsLines (texts_of w) file sets h)
+  lines_of_set B = lines_over truth_weights truth_laws truths truths_apart
+  lines_of_set F2 = lines_over residue_weights residue_laws truths truths_apart
+  lines_of_set Z = lines_over whole_weights whole_laws wholes wholes_apart
+  lines_of_set Q = lines_over fraction_weights rational_laws fractions fractions_apart
+  lines_of_set Nmin = lines_over tropical_weights tropical_laws costs costs_apart
 
-    bytes_same : (bytes : Bytes) → AnswersFile file task bytes a → AnswersFile file task bytes b → IsSameAnswer a b
-    bytes_same bytes p q = one_same (HasContext bytes) (one_head bytes) _ a b _ _ p q (λ f x y. set_same f.weights f.sets f.weights f.head x y)
+  text : (file bytes : Bytes) → IsLawful Every ⊥ (ReadsText file bytes)
+  text file bytes =
+      with_one Every ⊥ (HasContext bytes) _ _ (one_head bytes) tt (λ f.
+      after Every ⊥ (ReadsLines (texts_of f.weights) file f.sets f.head) _ (lines_of_set f.weights file f.sets f.head) (λ a. gives Every ⊥ _))
 
-    module _ (files : (held : Held) (name first second : Bytes) → Holds held name first → Holds held name second → first ≡ second) (h : Held) (before after : List Bytes) where
-      file_same : AllowsFile (seen (Some h) before after) file task a → AllowsFile (seen (Some h) before after) file task b → (IsFree a ⊎ IsFree b) ⊎ IsSameAnswer a b
-      file_same (inl m) q = inl (inl (subst IsFree (sym m) tt))
-      file_same p (inl m) = inl (inr (subst IsFree (sym m) tt))
-      file_same (inr (inl u)) q = inl (inl (subst IsFree (sym u.0) tt))
-      file_same p (inr (inl u)) = inl (inr (subst IsFree (sym u.0) tt))
-      file_same (inr (inr (x, t, p))) (inr (inr (y, s, q))) =
-          inr (unless_same (most_bytes < length x) (limit (Of BytesOf)) a b (AnswersFile file task x a) (AnswersFile file task x b) p
-          (subst (λ z. Unless (most_bytes < length z) (limit (Of BytesOf)) b (AnswersFile file task z b)) (files h file y x s t) q) (bytes_same x))
+  module _ (files : (held : Held) (name first second : Bytes) → Holds held name first → Holds held name second → first ≡ second) (h : Held) (before after_call : List Bytes) where
+    bytes_agree : (file : Bytes) (a b : Answer) → ReadsBytes (seen (Some h) before after_call) file a → ReadsBytes (seen (Some h) before after_call) file b → Alike ⊥ a b
+    bytes_agree file a b (inl p) q = inl (inl (subst IsFree (sym p.0) tt))
+    bytes_agree file a b p (inl q) = inl (inr (subst IsFree (sym q.0) tt))
+    bytes_agree file a b (inr (x, t, p)) (inr (y, s, q)) =
+        (unless Every ⊥ (most_bytes < length x) (limit (Of BytesOf)) (Gives x) tt (gives Every ⊥ x)).one a b p
+        (subst (λ z. Unless (most_bytes < length z) (limit (Of BytesOf)) (Gives z) b) (files h file y x s t) q)
 
-  pub determined : ((held : Held) (name first second : Bytes) → Holds held name first → Holds held name second → first ≡ second) → (h : Held) (before after : List Bytes) (request : Option Asked) (a b : Answer)
-      → Allows request (seen (Some h) before after) a → Allows request (seen (Some h) before after) b → (IsFree a ⊎ IsFree b) ⊎ IsSameAnswer a b
-  determined files h before after (Some (asked.context text)) a b x y =
-      or_memory (AnswersContext text) a b x y (λ p q.
-      one_same (IsContext text) one (syntax in_context) a b (λ c. a ≡ Ok (text_of_context c.0 c.1 ++ 10 ∷ [])) (λ c. b ≡ Ok (text_of_context c.0 c.1 ++ 10 ∷ [])) p q (λ c u v. inl (u ∙ sym v)))
-    where
-      one : (c d : List TapeSet × Weights) → IsContext text c → IsContext text d → c ≡ d
-      one c d p q = pairs c d (contexts text c.0 d.0 c.1 d.1 p q)
-        where
-          pairs : (c d : List TapeSet × Weights) → (c.0 ≡ d.0) × (c.1 ≡ d.1) → c ≡ d
-          pairs c d e = ap₂ (λ x y. (x, y)) e.0 e.1
-  determined files h before after (Some (asked.cat file)) a b x y = file_same a b file prints files h before after x y
-  determined files h before after (Some (asked.eval_file file word)) a b x y = file_same a b file (evaluates word) files h before after x y
-  determined files h before after other a b x y = or_memory (λ c. c ≡ Err usage) a b x y (λ p q. inl (p ∙ sym q))
+    file_read : (file : Bytes) → IsLawful Every ⊥ (ReadsFile (seen (Some h) before after_call) file)
+    file_read file =
+        after Every ⊥ (ReadsBytes (seen (Some h) before after_call) file) (ReadsText file) (record { kept = λ a p. every_kept a; one = bytes_agree file }) (text file)
+
+    abbrev s : Seen
+    s = seen (Some h) before after_call
+
+    answers : (Open : Type 0) (plan : Plan) → IsLawfulPlan Open plan → (a b : Answer) → Answers plan s a → Answers plan s b → AgreeBy (AreOfOnePart plan s) Open a b
+    answers Open unbuilt l a b p q = inr (inl (p ∙ sym q))
+    answers Open (of_texts texts) l a b p q = of_part (AreOfOnePart (of_texts texts) s) Open texts (λ r t e. e) a b p q (l.one a b p q)
+    answers Open (of_file file rest) l a b p q =
+        after_part (AreOfOnePart (of_file file rest) s) Open (ReadsFile s file) rest (file_read file) (λ r t e. inl e) (λ x i c d u v.
+        of_part (AreOfOnePart (of_file file rest) s) Open (rest x) (λ r t e. inr (x, i, e)) c d u v ((l x).one c d u v)) a b p q
+    answers Open (of_files first second rest) l a b p q =
+        after_part (AreOfOnePart (of_files first second rest) s) Open (ReadsFile s first) (λ x. Then (ReadsFile s second) (rest x)) (file_read first) (λ r t e. inl e) (λ x i.
+        after_part (AreOfOnePart (of_files first second rest) s) Open (ReadsFile s second) (rest x) (file_read second) (λ r t e. inr (x, i, inl e)) (λ y j c d u v.
+        of_part (AreOfOnePart (of_files first second rest) s) Open (rest x y) (λ r t e. inr (x, i, inr (y, j, e))) c d u v ((l x y).one c d u v))) a b p q
+
+    pub determined : (request : Option Asked) (a b : Answer) → Allows request s a → Allows request s b → Agree request s a b
+    determined request a b (inl m) q = inl (inl (subst IsFree (sym m) tt))
+    determined request a b p (inl m) = inl (inr (subst IsFree (sym m) tt))
+    determined request a b (inr p) (inr q) = answers (IsOpen request) (plan_of request) (plans_are_lawful (one_context contexts) request) a b p q

@@ -1,21 +1,29 @@
 -- What the text of a file is refused for, in the order of refusals, and the automaton that it spells.
-use Rattle.std.specs.Prelude.{◌≡◌, ◌⊎◌, ℕ, ◌+◌, List, length, Option, None, Some, Err}
+use Rattle.std.specs.Prelude.{◌≡◌, ◌⊎◌, ◌<◌, ℕ, ◌+◌, List, [], length, Option, None, Some, Result, Err}
+use Rattle.std.specs.List.{flat_map}
+use Rattle.vc_aut.specs.Labelled.{Labelled}
 use Rattle.vc_context.specs.Spelling.{SpellsContext}
 use Rattle.vc_context.specs.declared.context.Weights.{Weights}
+use Rattle.vc_daut.specs.Additions.{HasManyTriples, IsUnfitAddition}
 use Rattle.vc_daut.specs.Answers.{IsReadBehind}
 use Rattle.vc_daut.specs.ContextLines.{IsContextLine}
 use Rattle.vc_daut.specs.Heads.{HeadLine, head_line}
 use Rattle.vc_daut.specs.Lines.{lines_of}
+use Rattle.vc_daut.specs.Names.{line_names, with_names}
+use Rattle.vc_daut.specs.Passes.{IsNumeralAt}
 use Rattle.vc_daut.specs.Spelling.{Spells, bad_line, lines_in, IsFirstLabel}
+use Rattle.vc_daut.specs.declared.fault.DautFault.{DautFault}
 use Rattle.vc_daut.specs.declared.fault.DautFault.TheVariants.{Overflow, Limit}
 use Rattle.vc_files.specs.Files.{Bytes}
 use Rattle.vc_label.specs.declared.tape_set.TapeSet.{TapeSet}
 use Rattle.vc_model.specs.Automata.{Automaton}
-use Rattle.vc_ring.specs.declared.faults.Limit.{Limit as PastLimit}
-use Rattle.vc_ring.specs.declared.faults.Overflow.{Overflow as Step}
-use Rattle.vc_top.specs.Reasons.{Reason, in_line, syntax, no_label, overflow, limit}
-use Rattle.vc_top.specs.Refusals.{Answer, UnlessAny, WithOne}
-use Rattle.vc_top.specs.Sets.{WeightTexts}
+use Rattle.vc_ring.specs.declared.faults.Measure.TheVariants.{States, Transitions, Bytes as BytesOf}
+use Rattle.vc_ring.specs.declared.faults.Overflow.TheVariants.{Add}
+use Rattle.vc_ring.specs.Texts.{WeightTexts}
+use Rattle.vc_top.specs.Outcomes.{ForSuch, Gives, Outcome, Then, Unless, UnlessAny, WithOne}
+use Rattle.vc_top.specs.Reasons.{Reason, in_line, syntax, no_label, overflow, limit, unread}
+use Rattle.vc_top.specs.Seen.{HasFailed, Seen, Reads}
+use Rattle.vc_top.specs.Sets.{texts_of, value_of}
 use Rattle.vc_top.specs.declared.refusal.Bound.TheVariants.{Of}
 
 -- the first line of a file that is not blank, and the context that it spells
@@ -35,27 +43,75 @@ abbrev pub head_number : ℕ → Option HeadLine → ℕ
 head_number last None = last
 head_number last (Some h) = h.number
 
--- `Syntax` at the first line that is not blank where it is no context line
-abbrev pub WithContext : Bytes → Bytes → Answer → (Headed → Type 0) → Type 0
-WithContext file bytes answer rest = WithOne (HasContext bytes) (syntax (in_line file (head_number (length (lines_of bytes)) (head_line 1 (lines_of bytes))))) answer rest
+-- the automaton of a file, over the weight set of this name
+pub record Input : Type 0 where
+  pub weights : Weights
+  pub of : Labelled (value_of weights)
 
 module _ {V : Type 0} (T : WeightTexts V) where
-  -- a number of the file is past its range, or a sum of equal entries does not fit
-  abbrev pub HasOverflow : List TapeSet → HeadLine → Type 0
-  HasOverflow sets h = (line : ℕ) × (step : Step V) × IsReadBehind T.set T.same T.spelled T.numbers_fit sets h (Err (Overflow line step))
+  -- the reader may answer this, where `h` is the context line
+  abbrev pub IsReading : List TapeSet → HeadLine → Result (Labelled V) (DautFault V) → Type 0
+  IsReading = IsReadBehind T.set T.same T.spelled T.numbers_fit
 
-  -- the file names more states or transitions than there may be
-  abbrev pub HasLimit : List TapeSet → HeadLine → PastLimit → Type 0
-  HasLimit sets h l = IsReadBehind T.set T.same T.spelled T.numbers_fit sets h (Err (Limit l))
+  -- the lines after the context line spell this automaton
+  abbrev pub SpellsLines : List TapeSet → HeadLine → Automaton V → Type 0
+  SpellsLines sets h = Spells T.set T.spelled sets h.behind
 
-  -- a reason to refuse the file that was read
+  -- the first text after the context line that is no line of the grammar has this number
+  abbrev pub IsBadLine : HeadLine → ℕ → Type 0
+  IsBadLine h line = bad_line T.spelled (h.number + 1) h.behind ≡ Some line
+
+  -- the first label that is not in the label sets stands in the line of this number, from the first of these bytes to the second
+  abbrev pub IsForeignLabel : List TapeSet → HeadLine → ℕ × (ℕ × ℕ) → Type 0
+  IsForeignLabel sets h p = IsFirstLabel sets (h.number + 1) (lines_in T.spelled h.behind) p.0 p.1
+
+  -- a numeral in a weight is past its range
+  abbrev pub HasNumeral : HeadLine → Type 0
+  HasNumeral h = (line at : ℕ) × IsNumeralAt T.set T.spelled T.numbers_fit (h.number + 1) (lines_in T.spelled h.behind) line at
+
+  -- a line adds a weight to the sum of those before it, of the same state, or of the same source, label and target, and this sum does not fit; reading stops there
+  abbrev pub HasUnfitAddition : List TapeSet → HeadLine → Type 0
+  HasUnfitAddition sets h = (line : ℕ) × (v w : V) × IsUnfitAddition T.set T.spelled sets h line v w × IsReading sets h (Err (Overflow line (Add v w)))
+
+  -- the lines name more than 1,000,000 states
+  abbrev pub HasManyStates : HeadLine → Type 0
+  HasManyStates h = 1000000 < length (with_names [] (flat_map line_names (lines_in T.spelled h.behind)))
+
+  -- the lines have transitions of more than 4,000,000 sources, labels and targets, and reading stops there
+  abbrev pub HasManyTransitions : List TapeSet → HeadLine → Type 0
+  HasManyTransitions sets h = HasManyTriples T.set T.spelled sets h × IsReading sets h (Err (Limit (record { what = Transitions; most = 4000000 })))
+
+  -- a reason to refuse lines that are in the grammar and whose labels are in the label sets
   abbrev pub IsUnfit : List TapeSet → HeadLine → Reason → Type 0
-  IsUnfit sets h reason = ((reason ≡ overflow) × HasOverflow sets h) ⊎ ((l : PastLimit) × (reason ≡ limit (Of l.what)) × HasLimit sets h l)
+  IsUnfit sets h reason =
+      ((reason ≡ overflow) × (HasNumeral h ⊎ HasUnfitAddition sets h))
+      ⊎ (((reason ≡ limit (Of States)) × HasManyStates h) ⊎ ((reason ≡ limit (Of Transitions)) × HasManyTransitions sets h))
 
-  -- `Syntax` at the first line outside the grammar, `NotALabel` at the first label that is not in the label set, then `Overflow` or `Limit`
-  abbrev pub WithAutomaton : Bytes → List TapeSet → HeadLine → Answer → (Automaton V → Type 0) → Type 0
-  WithAutomaton file sets h answer rest =
-      UnlessAny (λ line. bad_line T.spelled (h.number + 1) h.behind ≡ Some line) (λ line. syntax (in_line file line)) answer (
-      UnlessAny {X = ℕ × (ℕ × ℕ)} (λ p. IsFirstLabel sets (h.number + 1) (lines_in T.spelled h.behind) p.0 p.1) (λ p. no_label (in_line file p.0)) answer (
-      UnlessAny (IsUnfit sets h) (λ reason. reason) answer (
-      (automaton : Automaton V) × Spells T.set T.spelled sets h.behind automaton × rest automaton)))
+  -- `Syntax` at the first line outside the grammar, `NotALabel` at the first label that is not in the label sets, then `Overflow` or `Limit`, and else the
+  -- automaton that the lines spell
+  abbrev pub ReadsLines : Bytes → List TapeSet → HeadLine → Outcome (Labelled V)
+  ReadsLines file sets h =
+      UnlessAny (IsBadLine h) (λ line. syntax (in_line file line)) (
+      UnlessAny (IsForeignLabel sets h) (λ p. no_label (in_line file p.0)) (
+      UnlessAny (IsUnfit sets h) (λ reason. reason) (
+      ForSuch (SpellsLines sets h) (λ automaton. Gives (record { sets = sets; automaton = automaton })))))
+
+-- `Syntax` at the first line that is not blank where it is no context line, and else what the other lines give
+abbrev pub ReadsText : Bytes → Bytes → Outcome Input
+ReadsText file bytes =
+    WithOne (HasContext bytes) (syntax (in_line file (head_number (length (lines_of bytes)) (head_line 1 (lines_of bytes))))) (λ f.
+    Then (ReadsLines (texts_of f.weights) file f.sets f.head) (λ a. Gives (record { weights = f.weights; of = a })))
+
+-- the greatest number of bytes of a file
+abbrev pub most_bytes : ℕ
+most_bytes = 16777216
+
+-- the bytes of a file: reading it has failed, or its bytes are too many
+abbrev pub ReadsBytes : Seen → Bytes → Outcome Bytes
+ReadsBytes seen file result =
+    ((result ≡ Err (unread file)) × HasFailed seen file)
+    ⊎ Reads seen file (λ bytes. Unless (most_bytes < length bytes) (limit (Of BytesOf)) (Gives bytes) result)
+
+-- the automaton of a file
+abbrev pub ReadsFile : Seen → Bytes → Outcome Input
+ReadsFile seen file = Then (ReadsBytes seen file) (ReadsText file)

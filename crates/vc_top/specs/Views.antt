@@ -1,25 +1,48 @@
 -- What the code answers, without where it lies in memory.
-use Rattle.std.specs.Prelude.{◌≡◌, ◌<◌, ◌≤◌, ℕ, length, Option, None, Some, Result, Ok, Err, String, string_bytes, ⊤}
-use Rattle.std.specs.Global.{Vec, Global}
+use Rattle.std.specs.Prelude.{ℕ, Option, None, Some, Result, Ok, Err, String, string_bytes}
+use Rattle.std.specs.Global.{Global}
+use Rattle.vc_aut.specs.Labelled.{Labelled}
 use Rattle.vc_command.specs.declared.request.RequestFault.{RequestFault}
 use Rattle.vc_command.specs.declared.request.RequestFault.TheVariants as words
+use Rattle.vc_context.specs.declared.context.Weights.TheVariants as weights
 use Rattle.vc_daut.specs.declared.fault.DautFault.{DautFault}
 use Rattle.vc_daut.specs.declared.fault.DautFault.TheVariants as fault
 use Rattle.vc_daut.specs.declared.fault.HeadFault.{HeadFault}
 use Rattle.vc_daut.specs.declared.fault.HeadFault.TheVariants as head
-use Rattle.vc_files.specs.Files.{Bytes, Added, Tells}
-use Rattle.vc_ring.specs.declared.faults.Measure.TheVariants.{Bytes as BytesOf}
-use Rattle.vc_top.specs.Answers.{most_bytes}
-use Rattle.vc_top.specs.Reasons.{Reason, in_line, limit, no_label, no_memory, overflow, reason_of, syntax, unread, usage}
-use Rattle.vc_top.specs.Refusals.{Answer}
-use Rattle.vc_top.specs.Seen.{Seen, Reads}
+use Rattle.vc_files.specs.Files.{Bytes}
+use Rattle.vc_top.specs.Inputs.{Input}
+use Rattle.vc_top.specs.Outcomes.{Answer}
+use Rattle.vc_top.specs.Reasons.{Reason, in_line, limit, no_label, no_memory, overflow, reason_of, syntax, usage}
+use Rattle.vc_top.specs.declared.input.AnyInput.{AnyInput}
+use Rattle.vc_top.specs.declared.input.AnyInput.TheVariants as input
+use Rattle.vc_top.specs.declared.input.AnyOf.{AnyOf}
+use Rattle.vc_top.specs.declared.input.AnyOf.TheVariants as any
 use Rattle.vc_top.specs.declared.refusal.Bound.TheVariants.{Of}
 use Rattle.vc_top.specs.declared.refusal.Refusal.{Refusal}
 
+-- a result of the code, whose values are seen like this
+abbrev pub seen_by : {X Y : Type 0} → (X → Y) → Result X Refusal → Result Y Reason
+seen_by view (Ok x) = Ok (view x)
+seen_by view (Err refusal) = Err (reason_of refusal)
+
 -- the text that is to be printed, or the reason
 abbrev pub answer_of : Result (String Global) Refusal → Answer
-answer_of (Ok text) = Ok (string_bytes text)
-answer_of (Err refusal) = Err (reason_of refusal)
+answer_of = seen_by string_bytes
+
+-- an automaton of the code, over any labels
+abbrev pub labelled_of : {S V : Type 0} → AnyOf S V → Labelled V
+labelled_of (any.Letters a) = a
+labelled_of (any.Nullable a) = a
+labelled_of (any.Words a) = a
+labelled_of (any.Tuple a) = a
+
+-- the automaton of a file
+abbrev pub input_of : AnyInput → Input
+input_of (input.B a) = record { weights = weights.B; of = labelled_of a }
+input_of (input.F2 a) = record { weights = weights.F2; of = labelled_of a }
+input_of (input.Z a) = record { weights = weights.Z; of = labelled_of a }
+input_of (input.Q a) = record { weights = weights.Q; of = labelled_of a }
+input_of (input.Nmin a) = record { weights = weights.Nmin; of = labelled_of a }
 
 -- the reason that a call left
 abbrev pub left_of : Result (Unit {0}) Refusal → Option Reason
@@ -42,15 +65,3 @@ fault_reason file (fault.NotALabel line from to) = no_label (in_line file line)
 fault_reason file (fault.Overflow line step) = overflow
 fault_reason file (fault.Limit l) = limit (Of l.what)
 fault_reason file (fault.Memory e) = no_memory
-
--- the bytes of a file were not read for this reason
-abbrev pub IsUnloaded : Seen → Bytes → Reason → Type 0
-IsUnloaded seen name (unread file) = (file ≡ name) × Added seen.before seen.after
-IsUnloaded seen name (limit (Of BytesOf)) = Reads seen name (λ bytes. most_bytes < length bytes)
-IsUnloaded seen name no_memory = ⊤
-IsUnloaded seen name other = ⊥
-
--- the bytes of a file were read, or there is a reason why not
-abbrev pub IsLoaded : Seen → Bytes → Result (Vec ℕ) Refusal → Type 0
-IsLoaded seen name (Ok bytes) = Tells seen.held name bytes.items × (length bytes.items ≤ most_bytes)
-IsLoaded seen name (Err refusal) = IsUnloaded seen name (reason_of refusal)

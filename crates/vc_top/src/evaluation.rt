@@ -3,17 +3,18 @@ ghost use Rattle.vc_label.specs.Alphabets.{has_letter};
 ghost use Rattle.vc_label.specs.declared.alphabet.Alphabet.{Alphabet};
 ghost use Rattle.vc_label.specs.Letters.{are_letters};
 ghost use Rattle.vc_model.specs.Letters.{HasLetters};
-ghost use Rattle.vc_top.specs.Evaluations.{AnswersEval, AnswersText, AnswersWord, AreLettersOf, IsAlphabetOf};
-ghost use Rattle.vc_top.specs.Refusals.{OrMemory};
-ghost use Rattle.vc_top.specs.Views.{answer_of};
+ghost use Rattle.vc_top.specs.Evaluations.{AnswersEval, AnswersEvalOver, AnswersSteps, AnswersWord, AreLettersOf, IsAlphabetOf};
+ghost use Rattle.vc_top.specs.Outcomes.{OrMemory};
+ghost use Rattle.vc_top.specs.Views.{answer_of, input_of, labelled_of};
 
-use crate::refusal::{Place, Refusal};
-use crate::word::read_word;
+use crate::input::{AnyInput, AnyOf};
+use crate::refusal::{Refusal, made_not};
+use crate::word::word_over;
 use std::alloc::{AllocError, Global};
-use vc_aut::{Automaton, automata_are_valid};
+use vc_aut::Automaton;
 use vc_eval::{Evaluator, letters_are_labels};
 use vc_label::{Alphabet, LabelSet, TapeKind, TapeSet, Word};
-use vc_ring::{MakeFault, Semiring};
+use vc_ring::{Semiring, Weighed};
 
 /// The text of a weight, and a line feed.
 fn line_of<S: Semiring>(alloc: Global, weight: S::Value) -> Result<String, AllocError>
@@ -26,23 +27,15 @@ fn line_of<S: Semiring>(alloc: Global, weight: S::Value) -> Result<String, Alloc
     Ok(text)
 }
 
-/// The answer for a word: the text of its coefficient, and a line feed.
-fn answer_word<'w, L: LabelSet, S: Semiring>(
+/// The text of the coefficient at a word.
+fn evaluate<'w, L: LabelSet, S: Semiring>(
     alloc: Global,
-    automaton: &Automaton<L, S>,
+    mut evaluator: Evaluator<'_, L, S>,
     word: &[u8],
 ) -> Result<String, Refusal<'w>>
-    requires letters { (alphabet : Alphabet) × AreLettersOf automaton.now.sets alphabet }
-    requires states { automaton.now.automaton.states ≤ 1000000 }
-    requires word { IsTrue (are_letters word.now) }
-    ensures { OrMemory (AnswersWord (record { set = S.set; same = S.Value.eq; spelled = S.spelled; numbers_fit = S.numbers_fit; canonical = S.canonical }) automaton.now.automaton word.now) (answer_of result) }
+    requires { IsTrue (are_letters word.now) }
+    ensures { OrMemory (AnswersSteps ⟦<S as Weighed>⟧.texts evaluator.entry.automaton word.now) (answer_of result) }
 {
-    letters_are_labels(automaton);
-    let mut evaluator = match Evaluator::new(alloc, automaton) {
-        Ok(evaluator) => evaluator,
-        Err(MakeFault::Memory(_)) => return Err(Refusal::Memory),
-        Err(_) => unreachable!(),
-    };
     let coefficient = match evaluator.eval(Word::one(word)) {
         Ok(coefficient) => coefficient,
         Err(_) => return Err(Refusal::Overflow),
@@ -53,24 +46,20 @@ fn answer_word<'w, L: LabelSet, S: Semiring>(
     }
 }
 
-/// The answer for the text of a word, whose letters are to be those of the automaton's alphabet.
-fn answer_text<'w, L: LabelSet, S: Semiring>(
+/// The answer for a word, over an automaton whose labels are letters.
+fn answer_word<'w, L: LabelSet, S: Semiring>(
     alloc: Global,
-    alphabet: Alphabet,
     automaton: &Automaton<L, S>,
-    text: &[u8],
+    word: &[u8],
 ) -> Result<String, Refusal<'w>>
-    requires letters { AreLettersOf automaton.now.sets alphabet }
-    requires states { automaton.now.automaton.states ≤ 1000000 }
-    ensures { OrMemory (AnswersText (record { set = S.set; same = S.Value.eq; spelled = S.spelled; numbers_fit = S.numbers_fit; canonical = S.canonical }) alphabet automaton.now.automaton text.now) (answer_of result) }
+    requires letters { (alphabet : Alphabet) × AreLettersOf automaton.now.sets alphabet }
+    requires word { IsTrue (are_letters word.now) }
+    ensures { OrMemory (AnswersWord ⟦<S as Weighed>⟧.texts automaton.now.automaton word.now) (answer_of result) }
 {
-    let Some(word) = read_word(text) else {
-        return Err(Refusal::Syntax(Place::Word));
-    };
-    if alphabet.has_all(word) {
-        answer_word(alloc, automaton, word)
-    } else {
-        Err(Refusal::NotALabel(Place::Word))
+    letters_are_labels(automaton);
+    match Evaluator::new(alloc, automaton) {
+        Ok(evaluator) => evaluate(alloc, evaluator, word),
+        Err(fault) => Err(made_not(fault)),
     }
 }
 
@@ -91,16 +80,47 @@ fn alphabet_of<L: LabelSet>(labels: &L) -> Option<Alphabet>
 }
 
 /// The coefficient of an automaton at the word of a text, whose labels are to be letters.
-pub(crate) fn evaluation<'w, L: LabelSet, S: Semiring>(
+fn eval_over<'w, L: LabelSet, S: Semiring>(
     alloc: Global,
     automaton: &Automaton<L, S>,
     text: &[u8],
 ) -> Result<String, Refusal<'w>>
-    requires { automaton.now.automaton.states ≤ 1000000 }
-    ensures { OrMemory (AnswersEval (record { set = S.set; same = S.Value.eq; spelled = S.spelled; numbers_fit = S.numbers_fit; canonical = S.canonical }) automaton.now.sets text.now automaton.now.automaton) (answer_of result) }
+    ensures { OrMemory (AnswersEvalOver ⟦<S as Weighed>⟧.texts text.now automaton.now) (answer_of result) }
 {
-    match alphabet_of(automaton.labels()) {
-        Some(alphabet) => answer_text(alloc, alphabet, automaton, text),
-        None => Err(Refusal::Contexts),
+    let Some(alphabet) = alphabet_of(automaton.labels()) else {
+        return Err(Refusal::Contexts);
+    };
+    match word_over(alphabet, text) {
+        Ok(word) => answer_word(alloc, automaton, word),
+        Err(refusal) => Err(refusal),
+    }
+}
+
+/// The same over any labels.
+fn eval_any<'w, S: Semiring>(
+    alloc: Global,
+    automaton: &AnyOf<S>,
+    text: &[u8],
+) -> Result<String, Refusal<'w>>
+    ensures { OrMemory (AnswersEvalOver ⟦<S as Weighed>⟧.texts text.now (labelled_of automaton.now)) (answer_of result) }
+{
+    match automaton {
+        AnyOf::Letters(a) => eval_over(alloc, a, text),
+        AnyOf::Nullable(a) => eval_over(alloc, a, text),
+        AnyOf::Words(a) => eval_over(alloc, a, text),
+        AnyOf::Tuple(a) => eval_over(alloc, a, text),
+    }
+}
+
+/// `eval FILE WORD`: the coefficient at the word.
+pub(crate) fn eval<'w>(alloc: Global, input: &AnyInput, text: &[u8]) -> Result<String, Refusal<'w>>
+    ensures { OrMemory (AnswersEval text.now (input_of input.now)) (answer_of result) }
+{
+    match input {
+        AnyInput::B(a) => eval_any(alloc, a, text),
+        AnyInput::F2(a) => eval_any(alloc, a, text),
+        AnyInput::Z(a) => eval_any(alloc, a, text),
+        AnyInput::Q(a) => eval_any(alloc, a, text),
+        AnyInput::Nmin(a) => eval_any(alloc, a, text),
     }
 }

@@ -1,8 +1,8 @@
-ghost use Rattle.std.specs.Prelude.{◌⊎◌, List, Option, Some};
+ghost use Rattle.std.specs.Prelude.{List, Option, Some};
 ghost use Rattle.vc_command.specs.Requests.{Asked};
 ghost use Rattle.vc_files.specs.Files.{Bytes, Held};
-ghost use Rattle.vc_top.specs.Answers.{Allows, IsFree, IsSameAnswer};
-ghost use Rattle.vc_top.specs.Refusals.{Answer};
+ghost use Rattle.vc_top.specs.Answers.{Agree, Allows};
+ghost use Rattle.vc_top.specs.Outcomes.{Answer};
 ghost use Rattle.vc_top.specs.Seen.{seen};
 
 use vc_basic::NminValue;
@@ -14,12 +14,13 @@ use vc_files::names_have_one_file;
 use vc_rat::Fraction;
 
 /// Over files that tell their bytes, a request allows one answer alone, but for faults of reading and want of memory; and
-/// where a number does not fit and a limit is passed, either may be answered. So where the cause of a refusal stands, this
-/// refusal is answered, or one of these.
+/// where a number does not fit and a limit is passed in one file, or in what is done with what was read, either may be
+/// answered; and a command whose text is open may print any that it allows. So where the cause of a refusal stands, this
+/// refusal is answered, or one of these. A file that has too many bytes is refused for that alone.
 pub fn answers_are_determined()
     ensures { (held : Held) (before after : List Bytes) (request : Option Asked) (a b : Answer)
         → Allows request (seen (Some held) before after) a → Allows request (seen (Some held) before after) b
-        → (IsFree a ⊎ IsFree b) ⊎ IsSameAnswer a b }
+        → Agree request (seen (Some held) before after) a b }
 {
     names_have_one_file();
     contexts_have_texts();

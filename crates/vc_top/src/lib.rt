@@ -1,11 +1,13 @@
 //! The top call: words, files and sinks in, a status out.
 #![tactic(auto)]
 
-mod automaton;
+mod automata;
 mod context;
 mod evaluation;
+mod input;
 mod law;
 mod message;
+mod plan;
 mod refusal;
 mod status;
 mod top;

@@ -1,58 +1,41 @@
-ghost use Rattle.std.specs.Prelude.{◌≡◌, ◌≢◌, ◌⊎◌, ◌∷◌, [], map, Option, Some, Ok, Err, string_bytes};
-ghost use Rattle.std.specs.Io.KnownBytes.{Appends};
+ghost use Rattle.std.specs.Prelude.{◌≡◌, ◌∷◌, [], map, Some, string_bytes};
 ghost use Rattle.vc_command.specs.Requests.{request_of};
 ghost use Rattle.vc_command.specs.Views.{asked};
-ghost use Rattle.vc_files.specs.Files.{Bytes, Grows, Added};
-ghost use Rattle.vc_files.specs.Sink.{Rose, AppendsFront};
-ghost use Rattle.vc_top.specs.Answers.{Allows, AllowsFile, IsUsage, names_of};
-ghost use Rattle.vc_top.specs.Delivery.{Delivers, IsSent, Reports};
-ghost use Rattle.vc_top.specs.Messages.{message};
-ghost use Rattle.vc_top.specs.Reasons.{Reason, status_of, unwritten};
-ghost use Rattle.vc_top.specs.Refusals.{Answer};
+ghost use Rattle.vc_files.specs.Files.{Grows};
+ghost use Rattle.vc_top.specs.Answers.{Allows, names_of};
+ghost use Rattle.vc_top.specs.Delivery.{Delivers, Reports};
+ghost use Rattle.vc_top.specs.Commands.{AnswersFile};
+ghost use Rattle.vc_top.specs.Inputs.{ReadsFile};
+ghost use Rattle.vc_top.specs.Outcomes.{OrMemory, Then};
+ghost use Rattle.vc_top.specs.Rows.{IsRun, flow};
 ghost use Rattle.vc_top.specs.Seen.{seen};
-ghost use Rattle.vc_top.specs.Tasks.{task_of};
-ghost use Rattle.vc_top.specs.Views.{IsLoaded, answer_of, left_of, reason_of_words};
+ghost use Rattle.vc_top.specs.Views.{answer_of, left_of, reason_of_words};
 
-use crate::automaton::{Task, with_automaton};
-use crate::context::context;
+use crate::input::read_input;
 use crate::message::write_message;
-use crate::refusal::{Bound, Refusal};
+use crate::plan::{FileCommand, Plan, on_file, on_texts, plan_of};
+use crate::refusal::Refusal;
 use crate::status::Status;
 use std::alloc::Global;
 use vc_command::{Request, RequestFault, request_of};
-use vc_files::{Files, ReadFault, Sink};
-use vc_ring::Measure;
+use vc_context::contexts_have_texts;
+use vc_files::{Files, Sink};
 
-/// The greatest number of bytes of a file.
-const MOST_BYTES: u64 = 16_777_216;
-
-/// The bytes of a file, or why they were not read.
-fn load<'w, F: Files>(files: &mut F, name: &'w str) -> Result<Vec<u8>, Refusal<'w>>
-    ensures held { F.held files.new ≡ F.held files.old }
-    ensures faults { Grows (name.now ∷ []) (F.faults files.old) (F.faults files.new) }
-    ensures loaded { IsLoaded (seen (F.held files.old) (F.faults files.old) (F.faults files.new)) name.now result }
-{
-    match files.read_all(name, MOST_BYTES) {
-        Ok(bytes) => Ok(bytes),
-        Err(ReadFault::Failed) => Err(Refusal::ReadFault { file: name }),
-        Err(ReadFault::TooLong { .. }) => Err(Refusal::Limit(Bound::Of(Measure::Bytes))),
-        Err(ReadFault::Memory(_)) => Err(Refusal::Memory),
-    }
-}
-
-/// The answer to a request that reads one file and does something with its automaton.
+/// The answer of a command to the file of this name.
 fn with_file<'w, F: Files>(
     alloc: Global,
+    command: FileCommand<'w>,
     files: &mut F,
     file: &'w str,
-    task: Task<'w>,
 ) -> Result<String, Refusal<'w>>
     ensures held { F.held files.new ≡ F.held files.old }
     ensures faults { Grows (file.now ∷ []) (F.faults files.old) (F.faults files.new) }
-    ensures answer { AllowsFile (seen (F.held files.old) (F.faults files.old) (F.faults files.new)) file.now (task_of task.entry) (answer_of result) }
+    ensures answer { OrMemory (Then (ReadsFile (seen (F.held files.old) (F.faults files.old) (F.faults files.new)) file.now) (AnswersFile command.entry)) (answer_of result) }
 {
-    let bytes = load(files, file)?;
-    with_automaton(alloc, file, &bytes, task)
+    match read_input(alloc, files, file) {
+        Ok(input) => on_file(alloc, command, &input),
+        Err(refusal) => Err(refusal),
+    }
 }
 
 /// The answer to a request; one of a command that is not built is `Usage`.
@@ -65,11 +48,9 @@ fn answer<'w, F: Files>(
     ensures faults { Grows (names_of (Some (asked request.now))) (F.faults files.old) (F.faults files.new) }
     ensures answer { Allows (Some (asked request.now)) (seen (F.held files.old) (F.faults files.old) (F.faults files.new)) (answer_of result) }
 {
-    match request {
-        Request::Context { text } => context(alloc, text.as_bytes()),
-        Request::Cat { file } => with_file(alloc, files, file, Task::Print),
-        Request::EvalFile { file, word } => with_file(alloc, files, file, Task::Evaluate(word)),
-        _ => Err(Refusal::Usage),
+    match plan_of(request) {
+        Plan::Texts(command) => on_texts(alloc, command),
+        Plan::File(file, command) => with_file(alloc, command, files, file),
     }
 }
 
@@ -82,7 +63,7 @@ fn deliver<'w, O: Sink>(answer: Result<String, Refusal<'w>>, out: &mut O) -> Res
             Ok(()) => Ok(()),
             Err(_) => Err(Refusal::WriteFault),
         },
-        Err(refusal) => Err(refusal),
+        Err(reason) => Err(reason),
     }
 }
 
@@ -124,31 +105,15 @@ pub fn run<F: Files, O: Sink, E: Sink>(
     out: &mut O,
     err: &mut E,
 ) -> Status
-    // The answer is one that the request allows over what the files tell; it is printed whole or not at all, and the line
-    // of a refusal is that of a reason which stands.
-    ensures answer { (a : Answer) × (left : Option Reason) × Allows (request_of (map string_bytes words.now)) (seen (F.held files.old) (F.faults files.old) (F.faults files.new)) a
-        × Delivers a left (O.written out.old) (O.written out.new) (O.faults out.old) (O.faults out.new)
-        × Reports left result (E.written err.old) (E.written err.new) (E.faults err.old) (E.faults err.new) }
+    // What is printed and what is told, the cause of each refusal, and the status.
+    ensures rows { IsRun (request_of (map string_bytes words.now)) (seen (F.held files.old) (F.faults files.old) (F.faults files.new)) result
+        (flow (O.written out.old) (O.written out.new) (O.faults out.old) (O.faults out.new)) (flow (E.written err.old) (E.written err.new) (E.faults err.old) (E.faults err.new)) }
 
-    // The same, a row each: what is printed, and that a refusal has its cause, prints nothing and says its reason.
-    ensures printed { result ≡ Status.Done → (text : Bytes) × Allows (request_of (map string_bytes words.now)) (seen (F.held files.old) (F.faults files.old) (F.faults files.new)) (Ok text)
-        × Appends (O.written out.old) (O.written out.new) text }
-    ensures front { result ≡ Status.WriteFault → (text : Bytes) × Allows (request_of (map string_bytes words.now)) (seen (F.held files.old) (F.faults files.old) (F.faults files.new)) (Ok text)
-        × AppendsFront (O.written out.old) (O.written out.new) text × IsSent (message unwritten) (E.written err.old) (E.written err.new) (E.faults err.old) (E.faults err.new) }
-    ensures cause { result ≢ Status.Done → result ≢ Status.WriteFault → (reason : Reason) × (result ≡ status_of reason)
-        × Allows (request_of (map string_bytes words.now)) (seen (F.held files.old) (F.faults files.old) (F.faults files.new)) (Err reason)
-        × IsSent (message reason) (E.written err.old) (E.written err.new) (E.faults err.old) (E.faults err.new) }
-    ensures nothing { result ≢ Status.Done → result ≢ Status.WriteFault → O.written out.new ≡ O.written out.old }
-    ensures silent { result ≡ Status.Done → (E.written err.new ≡ E.written err.old) × (E.faults err.new ≡ E.faults err.old) }
-
-    // Over every store and every sink.
-    ensures usage { result ≡ Status.Usage → IsUsage (request_of (map string_bytes words.now)) }
-    ensures asked { IsUsage (request_of (map string_bytes words.now)) → (result ≡ Status.Usage) ⊎ (result ≡ Status.Memory) }
+    // The files keep what they hold, and only a file of the request joins their faults.
     ensures faults { Grows (names_of (request_of (map string_bytes words.now))) (F.faults files.old) (F.faults files.new) }
-    ensures read_fault { result ≡ Status.ReadFault → Added (F.faults files.old) (F.faults files.new) }
-    ensures write_fault { result ≡ Status.WriteFault → Rose (O.faults out.old) (O.faults out.new) }
     ensures kept { F.held files.new ≡ F.held files.old }
 {
+    contexts_have_texts();
     match request_of(alloc, words) {
         Ok(request) => {
             let answer = answer(alloc, &request, files);

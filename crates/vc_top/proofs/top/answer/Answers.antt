@@ -1,13 +1,13 @@
-use Rattle.std.proofs.Common.{Some, subst, sym}
+use Rattle.std.proofs.Common.{Some}
 use Rattle.vc_command.specs.Views.{asked}
-use Rattle.vc_top.specs.Answers.{Allows}
-use Rattle.vc_top.specs.Contexts.{AnswersContext}
-use Rattle.vc_top.specs.Refusals.{OrMemory}
+use Rattle.vc_top.specs.Plans.{plan_of}
 use Rattle.vc_top.specs.Seen.{seen}
 use Rattle.vc_top.specs.Views.{answer_of}
+use Rattle.vc_top.proofs.Planned.{file_answered, file_grows, texts_answered}
 use Rattle.vc_top.proofs.top.answer.Goals as goal
 
-pub returns-in-Context-clause-answer : goal.returns-in-Context-clause-answer
-returns-in-Context-clause-answer g c =
-    subst (λ r. Allows (Some (asked r)) (seen (g.F.Files.held c.args.files.now) (g.F.Files.faults c.args.files.now) (g.F.Files.faults c.args.files.now)) (answer_of c.context.result)) (sym c.in-Context.is)
-    (subst (λ t. OrMemory (AnswersContext t) (answer_of c.context.result)) c.as_bytes.ensures.value c.context.ensures)
+pub returns-in-File-clause-faults : goal.returns-in-File-clause-faults
+returns-in-File-clause-faults g c = file_grows c.in-File.file c.in-File.command (plan_of (Some (asked c.args.request.now))) c.in-File.ensures _ _ c.with_file.ensures.faults
+
+pub returns-in-File-clause-answer : goal.returns-in-File-clause-answer
+returns-in-File-clause-answer g c = file_answered c.in-File.file c.in-File.command (seen _ _ _) (plan_of (Some (asked c.args.request.now))) c.in-File.ensures (answer_of c.with_file.result) c.with_file.ensures.answer

@@ -1,11 +1,13 @@
-use Rattle.std.proofs.Common.{subst}
-use Rattle.vc_top.specs.Refusals.{OrMemory}
-use Rattle.vc_top.specs.Tasks.{AnswersFile, task_of}
-use Rattle.vc_top.specs.Views.{answer_of}
-use Rattle.vc_top.proofs.Headed.{file_allowed}
+use Rattle.vc_top.specs.Commands.{AnswersFile}
+use Rattle.vc_top.specs.Inputs.{ReadsFile}
+use Rattle.vc_top.specs.Reasons.{reason_of}
+use Rattle.vc_top.specs.Seen.{seen}
+use Rattle.vc_top.specs.Views.{answer_of, input_of}
+use Rattle.vc_top.proofs.Outcomes.{then_given, then_refused}
 use Rattle.vc_top.proofs.top.with_file.Goals as goal
 
-pub returns-clause-answer : goal.returns-clause-answer
-returns-clause-answer g c =
-    file_allowed c.args.file.now (task_of c.args.task) c.in_ok-bytes.bytes.items _ c.in_ok-bytes.ensures.loaded.0 c.in_ok-bytes.ensures.loaded.1 (answer_of c.with_automaton.result)
-    (subst (λ x. OrMemory (AnswersFile c.args.file.now (task_of c.args.task) x) (answer_of c.with_automaton.result)) c.deref.ensures.value c.with_automaton.ensures)
+pub returns-in-Ok-clause-answer : goal.returns-in-Ok-clause-answer
+returns-in-Ok-clause-answer g c = then_given (ReadsFile (seen _ _ _) c.args.file.now) (AnswersFile c.args.command) (input_of c.in-Ok.input) (answer_of c.on_file.result) c.in-Ok.ensures.read c.on_file.ensures
+
+pub returns-in-Err-clause-answer : goal.returns-in-Err-clause-answer
+returns-in-Err-clause-answer g c = then_refused (ReadsFile (seen _ _ _) c.args.file.now) (AnswersFile c.args.command) (reason_of c.in-Err.refusal) c.in-Err.ensures.read

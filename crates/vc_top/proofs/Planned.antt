@@ -1,0 +1,40 @@
+-- What a command answers to what was read is an answer of its request.
+use Rattle.std.proofs.Common.{◌≡◌, ℕ, List, [], ◌∷◌, sym, subst, inl, inr}
+use Rattle.std.specs.Borrow.{Bor}
+use Rattle.vc_files.specs.Files.{Bytes, Grows}
+use Rattle.vc_top.specs.Commands.{AnswersFile, AnswersTexts, IsPlan}
+use Rattle.vc_top.specs.Inputs.{Input, ReadsFile}
+use Rattle.vc_top.specs.Outcomes.{Answer, OrMemory, Then}
+use Rattle.vc_top.specs.Plans.{Answers, Plan, files_of, of_file, of_files, of_texts, unbuilt}
+use Rattle.vc_top.specs.Seen.{Seen}
+use Rattle.vc_top.specs.declared.plan.FileCommand.{FileCommand}
+use Rattle.vc_top.specs.declared.plan.Plan.TheVariants.{Texts, File}
+use Rattle.vc_top.specs.declared.plan.TextCommand.{TextCommand}
+use Rattle.vc_top.proofs.Outcomes.{wider}
+
+pub texts_answered : (s : Seen) (plan : Plan) (command : TextCommand) → IsPlan (Texts command) plan → (a : Answer) → OrMemory (AnswersTexts command) a → OrMemory (Answers plan s) a
+texts_answered s unbuilt command h a p = wider (AnswersTexts command) (Answers unbuilt s) a a (λ m. m) p (h a)
+texts_answered s (of_texts texts) command h a p = wider (AnswersTexts command) texts a a (λ m. m) p (h a)
+texts_answered s (of_file file rest) command h a p = absurd h
+texts_answered s (of_files first second rest) command h a p = absurd h
+
+module _ (file : Bor (List ℕ)) (command : FileCommand) where
+  pub file_answered : (s : Seen) (plan : Plan) → IsPlan (File file command) plan → (a : Answer) → OrMemory (Then (ReadsFile s file.now) (AnswersFile command)) a → OrMemory (Answers plan s) a
+  file_answered s unbuilt h a p = absurd h
+  file_answered s (of_texts texts) h a p = absurd h
+  file_answered s (of_file name rest) h a p = wider (Then (ReadsFile s file.now) (AnswersFile command)) (Then (ReadsFile s name) rest) a a (λ m. m) p (λ q. at (sym h.0) (go q))
+    where
+      go : Then (ReadsFile s file.now) (AnswersFile command) a → Then (ReadsFile s file.now) rest a
+      go (inl q) = inl q
+      go (inr q) = inr (q.0, q.1, h.1 q.0 a q.2)
+
+      at : {name : Bytes} → file.now ≡ name → Then (ReadsFile s file.now) rest a → Then (ReadsFile s name) rest a
+      at e q = subst (λ n. Then (ReadsFile s n) rest a) e q
+  file_answered s (of_files first second rest) h a p = absurd h
+
+  -- the faults are those of the plan's files
+  pub file_grows : (plan : Plan) → IsPlan (File file command) plan → (old new : List Bytes) → Grows (file.now ∷ []) old new → Grows (files_of plan) old new
+  file_grows unbuilt h old new g = absurd h
+  file_grows (of_texts texts) h old new g = absurd h
+  file_grows (of_file name rest) h old new g = subst (λ n. Grows (n ∷ []) old new) (sym h.0) g
+  file_grows (of_files first second rest) h old new g = absurd h

@@ -1,0 +1,24 @@
+-- Commands that print an automaton.
+use Rattle.std.specs.Prelude.{◌≡◌}
+use Rattle.vc_aut.specs.Labelled.{Labelled}
+use Rattle.vc_context.specs.declared.context.Weights.{Weights}
+use Rattle.vc_daut.specs.Canonical.{automaton_text}
+use Rattle.vc_daut.specs.Spelling.{SpellsAutomaton}
+use Rattle.vc_files.specs.Files.{Bytes}
+use Rattle.vc_ring.specs.Texts.{WeightTexts}
+use Rattle.vc_top.specs.Inputs.{Input}
+use Rattle.vc_top.specs.Outcomes.{ForSuch, Gives, Outcome}
+use Rattle.vc_top.specs.Sets.{texts_of}
+
+-- the text of an automaton over a weight set, whose name is given: the canonical one, which spells the automaton
+pub record IsTextOf {V : Type 0} (T : WeightTexts V) (weights : Weights) (a : Labelled V) (text : Bytes) : Type 0 where
+  pub canonical : text ≡ automaton_text T.set T.same T.canonical a.sets weights a.automaton
+  pub spells : SpellsAutomaton T.set T.spelled text a.sets weights a.automaton
+
+-- the text of the automaton
+abbrev pub Prints : {V : Type 0} → WeightTexts V → Weights → Labelled V → Outcome Bytes
+Prints T weights a = ForSuch (IsTextOf T weights a) Gives
+
+-- `cat`
+abbrev pub AnswersCat : Input → Outcome Bytes
+AnswersCat input = Prints (texts_of input.weights) input.weights input.of

@@ -1,0 +1,33 @@
+-- What the commands of the code answer, and that a plan of the code is the one of a request.
+use Rattle.std.specs.Prelude.{◌≡◌, Err}
+use Rattle.vc_files.specs.Files.{Bytes}
+use Rattle.vc_top.specs.Automata.{AnswersCat}
+use Rattle.vc_top.specs.Contexts.{AnswersContext}
+use Rattle.vc_top.specs.Evaluations.{AnswersEval}
+use Rattle.vc_top.specs.Inputs.{Input}
+use Rattle.vc_top.specs.Outcomes.{Answer, Outcome}
+use Rattle.vc_top.specs.Plans.{Plan, of_file, of_files, of_texts, unbuilt}
+use Rattle.vc_top.specs.Reasons.{usage}
+use Rattle.vc_top.specs.declared.plan.FileCommand.{FileCommand}
+use Rattle.vc_top.specs.declared.plan.FileCommand.TheVariants.{Cat, Eval}
+use Rattle.vc_top.specs.declared.plan.Plan.{Plan as Code}
+use Rattle.vc_top.specs.declared.plan.Plan.TheVariants.{Texts, File}
+use Rattle.vc_top.specs.declared.plan.TextCommand.{TextCommand}
+use Rattle.vc_top.specs.declared.plan.TextCommand.TheVariants.{Unbuilt, Context}
+
+-- a command that reads no file; one that is not built is `Usage`
+abbrev pub AnswersTexts : TextCommand → Outcome Bytes
+AnswersTexts Unbuilt answer = answer ≡ Err usage
+AnswersTexts (Context text) answer = AnswersContext text.now answer
+
+-- a command, to the automaton of its file
+abbrev pub AnswersFile : FileCommand → Input → Outcome Bytes
+AnswersFile Cat = AnswersCat
+AnswersFile (Eval word) = AnswersEval word.now
+
+-- the code reads the files of this plan, and each answer of its command is one of the plan
+abbrev pub IsPlan : Code → Plan → Type 0
+IsPlan (Texts command) unbuilt = (answer : Answer) → AnswersTexts command answer → answer ≡ Err usage
+IsPlan (Texts command) (of_texts texts) = (answer : Answer) → AnswersTexts command answer → texts answer
+IsPlan (File name command) (of_file file rest) = (file ≡ name.now) × ((x : Input) (answer : Answer) → AnswersFile command x answer → rest x answer)
+IsPlan code plan = ⊥

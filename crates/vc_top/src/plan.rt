@@ -1,0 +1,77 @@
+ghost use Rattle.std.specs.Prelude.{Some};
+ghost use Rattle.vc_command.specs.Views.{asked};
+ghost use Rattle.vc_top.specs.Commands.{AnswersFile, AnswersTexts, IsPlan};
+ghost use Rattle.vc_top.specs.Outcomes.{OrMemory};
+ghost use Rattle.vc_top.specs.Plans.{plan_of};
+ghost use Rattle.vc_top.specs.Views.{answer_of, input_of};
+
+use crate::automata::cat;
+use crate::context::context;
+use crate::evaluation::eval;
+use crate::input::AnyInput;
+use crate::refusal::Refusal;
+use std::alloc::Global;
+use vc_command::Request;
+
+/// What a request wants: the files that are read, and the command that answers to them.
+#[derive(Clone, Copy)]
+pub(crate) enum Plan<'w> {
+    /// No file is read.
+    Texts(TextCommand<'w>),
+    /// The file of this name is read.
+    File(&'w str, FileCommand<'w>),
+}
+
+/// A command that reads no file.
+#[derive(Clone, Copy)]
+pub(crate) enum TextCommand<'w> {
+    /// One that is not built.
+    Unbuilt,
+    /// `context C`
+    Context { text: &'w str },
+}
+
+/// A command that reads one file.
+#[derive(Clone, Copy)]
+pub(crate) enum FileCommand<'w> {
+    /// `cat FILE`
+    Cat,
+    /// `eval FILE WORD`
+    Eval { word: &'w str },
+}
+
+/// The plan of a request: a line for each command.
+pub(crate) fn plan_of(request: &Request) -> Plan<'_>
+    ensures { IsPlan result (plan_of (Some (asked request.now))) }
+{
+    match request {
+        Request::Context { text } => Plan::Texts(TextCommand::Context { text }),
+        Request::Cat { file } => Plan::File(file, FileCommand::Cat),
+        Request::EvalFile { file, word } => Plan::File(file, FileCommand::Eval { word }),
+        _ => Plan::Texts(TextCommand::Unbuilt),
+    }
+}
+
+/// The answer of a command that reads no file.
+pub(crate) fn on_texts<'w>(alloc: Global, command: TextCommand<'w>) -> Result<String, Refusal<'w>>
+    ensures { OrMemory (AnswersTexts command.entry) (answer_of result) }
+{
+    match command {
+        TextCommand::Unbuilt => Err(Refusal::Usage),
+        TextCommand::Context { text } => context(alloc, text.as_bytes()),
+    }
+}
+
+/// The answer of a command to the automaton of its file.
+pub(crate) fn on_file<'w>(
+    alloc: Global,
+    command: FileCommand<'w>,
+    input: &AnyInput,
+) -> Result<String, Refusal<'w>>
+    ensures { OrMemory (AnswersFile command.entry (input_of input.now)) (answer_of result) }
+{
+    match command {
+        FileCommand::Cat => cat(alloc, input),
+        FileCommand::Eval { word } => eval(alloc, input, word.as_bytes()),
+    }
+}
