@@ -15,7 +15,7 @@ use Rattle.vc_label.specs.declared.alphabet.Alphabet.{Alphabet}
 use Rattle.vc_model.specs.Members.{In-filter, In-filter_from, up_from-In}
 use Rattle.vc_model.specs.Lists.{In, up_from}
 
-is_bit : (m : ℕ) → m < 2 → (m ≡ 0) ⊎ (m ≡ 1)
+pub is_bit : (m : ℕ) → m < 2 → (m ≡ 0) ⊎ (m ≡ 1)
 is_bit zero l = inl refl
 is_bit (suc zero) l = inr refl
 is_bit (suc (suc m)) l = absurd (omega arith)
@@ -57,7 +57,7 @@ set_letter n k h l x e =
       | inr p ↦ h x (sym (bit_at_set_other w128 n k lt x p.1) ∙ e)
     ]
 
-or_one : (a b : ℕ) → (a ≡ 0) ⊎ (a ≡ 1) → (b ≡ 0) ⊎ (b ≡ 1) → max a b ≡ 1 → (a ≡ 1) ⊎ (b ≡ 1)
+pub or_one : (a b : ℕ) → (a ≡ 0) ⊎ (a ≡ 1) → (b ≡ 0) ⊎ (b ≡ 1) → max a b ≡ 1 → (a ≡ 1) ⊎ (b ≡ 1)
 or_one a b (inl p) (inl q) e = absurd (omega arith)
 or_one a b (inl p) (inr q) e = inr q
 or_one a b (inr p) q e = inl p

@@ -11,7 +11,7 @@ mod tests;
 mod word;
 mod word_buf;
 
-pub use alphabet::Alphabet;
+pub use alphabet::{Alphabet, Ascending};
 pub use label_set::{LabelFault, LabelSet};
 pub use laws::{alphabets_are_sets, tapes_are_cut, words_are_ordered, words_are_over_sets};
 pub use tape_set::{TapeKind, TapeSet};

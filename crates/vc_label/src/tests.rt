@@ -20,6 +20,25 @@ fn alphabets_have_their_letters(rt: HostRuntime) {
 }
 
 #[test]
+fn letters_are_listed_in_order(rt: HostRuntime) {
+    let digits = Alphabet::new().with_range(b'0', b'3');
+    let odd = Alphabet::new().with(b'3').with(b'1');
+    for (alphabet, letters) in [
+        (digits, b"0123".as_slice()),
+        (digits.without(odd), b"02"),
+        (odd.intersection(digits), b"13"),
+        (odd.with_range(b'b', b'a'), b"13"),
+        (Alphabet::new().with_range(b'}', 0xff), b"}~"),
+    ] {
+        let mut found = alphabet.letters();
+        for letter in letters {
+            assert_eq!(rt; found.next(), Some(*letter));
+        }
+        assert!(rt; found.next().is_none());
+    }
+}
+
+#[test]
 fn words_grow(rt: HostRuntime) -> Result<(), AllocError> {
     let mut grown = WordBuf::new(rt.alloc(), 2);
     assert!(rt; grown.word().is_empty());

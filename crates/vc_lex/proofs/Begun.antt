@@ -2,11 +2,11 @@
 use Rattle.std.proofs.Common.{◌≡◌, ℕ, zero, suc, ◌+◌, ◌≤◌, ◌&&◌, true, false, List, [], ◌∷◌, ◌++◌, length, drop, Option, Some, None, refl, ap, sym, ◌∙◌, subst, inl, inr, arith, length-drop}
 use Rattle.std.specs.Prelude.{if◌then◌else◌, ◌==◌}
 use Rattle.std.specs.Option.{option_map, option_map_or}
-use Rattle.vc_lex.specs.Letters.{is_plain, is_escaped, letter_in}
+use Rattle.vc_text.specs.Letters.{is_plain, is_escaped, letter_in, SpellsLetter}
 use Rattle.vc_lex.specs.Fronts.{front, front_by}
-use Rattle.vc_lex.specs.Grammar.{SpellsLetter, IsLetter}
+use Rattle.vc_lex.specs.Grammar.{IsLetter}
 use Rattle.vc_lex.specs.Scans.{letter_width}
-use Rattle.vc_lex.specs.declared.letters.LetterAt.{LetterAt}
+use Rattle.vc_text.specs.declared.letters.LetterAt.{LetterAt}
 use Rattle.vc_lex.proofs.Pieces.{Shrinks, none_of_empty, drop_twice}
 
 -- a backslash is no plain letter

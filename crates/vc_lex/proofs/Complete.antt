@@ -5,11 +5,11 @@ use Rattle.std.proofs.Math.Seq.{drop-append_seam}
 use Rattle.std.specs.Prelude.{if◌then◌else◌, ◌==◌}
 use Rattle.std.specs.Option.{option_map, option_map_or, option_and_then}
 use Rattle.std.specs.List.{prefix_len}
-use Rattle.vc_lex.specs.Letters.{is_plain, is_escaped, letter_in}
+use Rattle.vc_text.specs.Letters.{is_plain, is_escaped, letter_in}
 use Rattle.vc_lex.specs.Fronts.{front}
 use Rattle.vc_lex.specs.Grammar.{IsLetter, joined, Each, Several, Between, IsClassBody, IsWeightBody, IsNamePart, IsTokenText, EndsBefore, IsComment, is_weight_byte}
 use Rattle.vc_lex.specs.Scans.{begins_with, letter_width, item_width, item_behind, name_width, positive, class_body, enclosed, common_token, expression_token, line_token, token_at}
-use Rattle.vc_lex.specs.declared.letters.LetterAt.{LetterAt}
+use Rattle.vc_text.specs.declared.letters.LetterAt.{LetterAt}
 use Rattle.vc_lex.specs.declared.token.Mode.{Mode}
 use Rattle.vc_lex.specs.declared.token.Mode.TheVariants.{Expression, Line}
 use Rattle.vc_lex.specs.declared.token.TokenKind.{TokenKind}

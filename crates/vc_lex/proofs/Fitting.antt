@@ -6,11 +6,11 @@ use Rattle.std.specs.Prelude.{if◌then◌else◌, nat_le, ◌==◌}
 use Rattle.std.specs.Option.{option_and_then}
 use Rattle.std.specs.List.{prefix_len, list_all}
 use Rattle.std.proofs.lemmas.Bool.{eqb-true}
-use Rattle.vc_lex.specs.Letters.{is_plain}
+use Rattle.vc_text.specs.Letters.{is_plain, SpellsLetter}
 use Rattle.vc_lex.specs.Fronts.{front}
-use Rattle.vc_lex.specs.Grammar.{SpellsLetter, IsLetter, joined, Each, Several, IsItem, IsClassBody, IsNamePart, is_weight_byte, is_name_byte}
+use Rattle.vc_lex.specs.Grammar.{IsLetter, joined, Each, Several, IsItem, IsClassBody, IsNamePart, is_weight_byte, is_name_byte}
 use Rattle.vc_lex.specs.Scans.{begins_with, letter_width, range_width, item_behind, item_width, name_width, positive, class_body}
-use Rattle.vc_lex.specs.declared.letters.LetterAt.{LetterAt}
+use Rattle.vc_text.specs.declared.letters.LetterAt.{LetterAt}
 use Rattle.vc_lex.proofs.Pieces.{Shrinks, front-none, front-some}
 use Rattle.vc_lex.proofs.Widths.{items_shrink}
 use Rattle.vc_lex.proofs.Begun.{letter_read, letter_begins}

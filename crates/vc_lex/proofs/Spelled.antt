@@ -7,11 +7,11 @@ use Rattle.std.proofs.lemmas.List.Sums.{prefix_len-le-length}
 use Rattle.std.specs.Prelude.{if◌then◌else◌, nat_le, ◌==◌}
 use Rattle.std.specs.Option.{option_map, option_map_or, option_and_then}
 use Rattle.std.specs.List.{prefix_len, list_all}
-use Rattle.vc_lex.specs.Letters.{is_plain, is_escaped, letter_in}
+use Rattle.vc_text.specs.Letters.{is_plain, is_escaped, letter_in, SpellsLetter}
 use Rattle.vc_lex.specs.Fronts.{front, front_by}
-use Rattle.vc_lex.specs.Grammar.{SpellsLetter, IsLetter, Several, IsItem, IsClassBody, IsWeightBody, IsNamePart, is_weight_byte, is_name_byte}
+use Rattle.vc_lex.specs.Grammar.{IsLetter, Several, IsItem, IsClassBody, IsWeightBody, IsNamePart, is_weight_byte, is_name_byte}
 use Rattle.vc_lex.specs.Scans.{letter_width, range_width, item_behind, item_width, name_width, positive, class_body}
-use Rattle.vc_lex.specs.declared.letters.LetterAt.{LetterAt}
+use Rattle.vc_text.specs.declared.letters.LetterAt.{LetterAt}
 use Rattle.vc_lex.proofs.Pieces.{front-le}
 use Rattle.vc_lex.proofs.Widths.{letter_some, items_shrink}
 

@@ -1,9 +1,9 @@
 -- Letters, items and parts of names have at least one byte, and lie within their texts.
 use Rattle.std.proofs.Common.{◌≡◌, ℕ, ◌+◌, ◌<◌, ◌≤◌, List, [], ◌∷◌, length, Some, arith}
 use Rattle.std.proofs.lemmas.Grind.{common_steps}
-use Rattle.vc_lex.specs.Letters.{letter_in}
+use Rattle.vc_text.specs.Letters.{letter_in}
 use Rattle.vc_lex.specs.Scans.{letter_width, item_width, item_behind, name_width}
-use Rattle.vc_lex.specs.declared.letters.LetterAt.{LetterAt}
+use Rattle.vc_text.specs.declared.letters.LetterAt.{LetterAt}
 use Rattle.vc_lex.proofs.Pieces.{Shrinks}
 
 -- the place behind a letter is behind its first byte, and within the text

@@ -1,15 +1,11 @@
 -- The texts of tokens, by cases.
 use Rattle.std.specs.Prelude.{◌≡◌, ◌≢◌, ℕ, ◌≤◌, ◌⊎◌, Bool, true, ◌&&◌, not, nat_le, ◌==◌, List, [], ◌∷◌, ◌++◌, codes, length, take, drop}
 use Rattle.std.specs.List.{list_all}
-use Rattle.vc_lex.specs.Letters.{is_plain, is_escaped}
+use Rattle.vc_text.specs.Letters.{SpellsLetter}
 use Rattle.vc_lex.specs.declared.token.Mode.{Mode}
 use Rattle.vc_lex.specs.declared.token.Mode.TheVariants.{Expression, Line}
 use Rattle.vc_lex.specs.declared.token.TokenKind.{TokenKind}
 use Rattle.vc_lex.specs.declared.token.TokenKind.TheVariants.{Zero, One, Letter, Run, Quoted, Class, Weight, Star, And, Shuffle, Plus, Left, Right, Bar, Arrow, Comma, Dollar, Equals, Name}
-
--- the text is this letter: a plain letter itself, another one with a backslash before it
-abbrev pub SpellsLetter : List ℕ → ℕ → Type 0
-SpellsLetter text x = ((is_plain x ≡ true) × (text ≡ x ∷ [])) ⊎ ((is_escaped x ≡ true) × (text ≡ 92 ∷ x ∷ []))
 
 -- a plain or escaped letter
 abbrev pub IsLetter : List ℕ → Type 0

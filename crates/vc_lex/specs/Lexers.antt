@@ -1,7 +1,8 @@
 -- The state of a lexer, and one step of it.
 use Rattle.std.specs.Prelude.{◌≡◌, ℕ, ◌+◌, Bool, true, List, drop, slice_range, Option, Some, None, Result, Ok, Err}
 use Rattle.std.specs.List.{prefix_len}
-use Rattle.vc_lex.specs.Scans.{is_blank, token_at}
+use Rattle.vc_lex.specs.Scans.{token_at}
+use Rattle.vc_text.specs.Blanks.{is_blank}
 use Rattle.vc_lex.specs.declared.token.Mode.{Mode}
 use Rattle.vc_lex.specs.declared.token.Token.{Token}
 use Rattle.vc_lex.specs.declared.token.BadByte.{BadByte}

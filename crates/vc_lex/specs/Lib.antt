@@ -1,4 +1,3 @@
-pub mod Letters
 pub mod Fronts
 pub mod Grammar
 pub mod Scans

@@ -2,20 +2,16 @@
 use Rattle.std.specs.Prelude.{◌≡◌, ◌⊎◌, ℕ, ◌+◌, Bool, false, ◌||◌, ◌&&◌, nat_le, ◌==◌, List, [], ◌∷◌, drop, Option, Some, None, if◌then◌else◌}
 use Rattle.std.specs.Option.{option_map, option_map_or, option_and_then}
 use Rattle.std.specs.List.{prefix_len}
-use Rattle.vc_lex.specs.Letters.{letter_in}
 use Rattle.vc_lex.specs.Fronts.{front}
 use Rattle.vc_lex.specs.Grammar.{is_weight_byte, is_name_byte, BeginsToken, IsComment}
-use Rattle.vc_lex.specs.declared.letters.LetterAt.{LetterAt}
 use Rattle.vc_lex.specs.declared.token.Mode.{Mode}
 use Rattle.vc_lex.specs.declared.token.Mode.TheVariants.{Expression, Line}
 use Rattle.vc_lex.specs.declared.token.TokenKind.{TokenKind}
 use Rattle.vc_lex.specs.declared.token.TokenKind.TheVariants.{Zero, One, Letter, Run, Quoted, Class, Weight, Star, And, Shuffle, Plus, Left, Right, Bar, Arrow, Comma, Dollar, Equals, Name}
 use Rattle.vc_lex.specs.declared.scan.Scan.{Scan}
 use Rattle.vc_lex.specs.declared.scan.Scan.TheVariants.{End, Bad, Found}
-
--- a space or a tab
-abbrev pub is_blank : ℕ → Bool
-is_blank x = x == 32 || x == 9
+use Rattle.vc_text.specs.Letters.{letter_in}
+use Rattle.vc_text.specs.declared.letters.LetterAt.{LetterAt}
 
 -- whether a text begins with this byte
 abbrev pub begins_with : ℕ → List ℕ → Bool

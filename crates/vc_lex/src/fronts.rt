@@ -2,15 +2,16 @@ ghost use Rattle.std.specs.Prelude.{◌≡◌, ◌≤◌, length};
 ghost use Rattle.std.specs.List.{prefix_len};
 ghost use Rattle.vc_lex.specs.Fronts.{front};
 ghost use Rattle.vc_lex.specs.Grammar.{is_weight_byte, is_name_byte};
-ghost use Rattle.vc_lex.specs.Scans.{is_blank, letter_width, item_width, name_width};
+ghost use Rattle.vc_lex.specs.Scans.{letter_width, item_width, name_width};
+ghost use Rattle.vc_text.specs.Blanks.{is_blank};
 
-use crate::letters::letter_in;
+use vc_text::{is_blank, letter_at};
 
 // How many bytes the letter has that begins the text.
 pub fn letter_width(text: &[u8]) -> Option<usize>
     ensures { result ≡ letter_width text.now }
 {
-    Some(letter_in(0, text)?.after)
+    Some(letter_at(text, 0)?.after)
 }
 
 // How many bytes the letters at the front of the text have.
@@ -29,11 +30,11 @@ pub fn letters_in_front(text: &[u8]) -> usize
 fn item_width(text: &[u8]) -> Option<usize>
     ensures { result ≡ item_width text.now }
 {
-    let first = letter_in(0, text)?;
-    let [b'-', rest @ ..] = &text[first.after..] else {
+    let first = letter_at(text, 0)?;
+    let [b'-', ..] = &text[first.after..] else {
         return Some(first.after);
     };
-    let last = letter_in(first.after + 1, rest)?;
+    let last = letter_at(text, first.after + 1)?;
     if first.letter <= last.letter {
         Some(last.after)
     } else {
@@ -97,7 +98,5 @@ pub fn blanks_in_front(text: &[u8]) -> usize
     ensures value { result ≡ prefix_len is_blank text.now }
     ensures within { result ≤ length text.now }
 {
-    text.iter()
-        .take_while(|x| **x == b' ' || **x == b'\t')
-        .count()
+    text.iter().take_while(|x| is_blank(**x)).count()
 }

@@ -3,15 +3,14 @@
 
 mod fronts;
 mod laws;
-mod letters;
 mod lexer;
 mod scan;
 mod token;
 
 pub use laws::tokens_follow_the_grammar;
-pub use letters::{LetterAt, letter_at};
 pub use lexer::Lexer;
 pub use token::{BadByte, Mode, Token, TokenKind};
+pub use vc_text::{LetterAt, letter_at};
 
 #[cfg(test)]
 mod tests;

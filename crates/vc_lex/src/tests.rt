@@ -2,16 +2,6 @@ use super::*;
 use std::test::Fail;
 
 #[test]
-fn letters_lose_their_backslash(rt: HostRuntime) -> Result<(), Fail> {
-    let text = b"\\+b";
-    let plus = letter_at(text, 0).ok_or("no letter at 0")?;
-    assert_eq!(rt; plus.letter, b'+');
-    assert_eq!(rt; plus.after, 2);
-    assert!(rt; letter_at(text, 3).is_none());
-    Ok(())
-}
-
-#[test]
 fn expressions_are_cut_into_tokens(rt: HostRuntime) -> Result<(), Fail> {
     let mut lexer = Lexer::new(b"<2>a b", Mode::Expression);
     for (kind, at, text) in [

@@ -1,0 +1,5 @@
+pub mod Letters
+pub mod LetterLaws
+pub mod Blanks
+pub mod Growing
+pub mod Fronts

@@ -1,0 +1,12 @@
+//! What texts are made of: letters, blanks, and texts that grow.
+#![tactic(auto)]
+
+mod blanks;
+mod growing;
+mod letters;
+#[cfg(test)]
+mod tests;
+
+pub use blanks::{after_blanks, is_blank};
+pub use growing::{cut_back, push_byte, push_letter, push_number, push_text};
+pub use letters::{LetterAt, is_escaped, is_plain, letter_at};

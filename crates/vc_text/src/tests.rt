@@ -1,0 +1,39 @@
+use super::*;
+use std::alloc::AllocError;
+
+#[test]
+fn letters_are_read_and_written(rt: HostRuntime) -> Result<(), AllocError> {
+    for (text, letter) in [
+        (b"a+".as_slice(), Some(b'a')),
+        (b"_", Some(b'_')),
+        (b"\\+b", Some(b'+')),
+        (b"\\\\", Some(b'\\')),
+        (b"\\a", None),
+        (b"+", None),
+        (b"\\", None),
+        (b" a", None),
+    ] {
+        let found = letter_at(text, 0);
+        assert_eq!(rt; found.map(|found| found.letter), letter);
+        if let Some(found) = found {
+            let mut written = String::new(rt.alloc());
+            push_letter(found.letter, &mut written)?;
+            assert_eq!(rt; written.as_bytes(), &text[..found.after]);
+        }
+    }
+    Ok(())
+}
+
+#[test]
+fn texts_grow(rt: HostRuntime) -> Result<(), AllocError> {
+    let mut text = String::new(rt.alloc());
+    push_text("n = ", &mut text)?;
+    push_number(120, &mut text)?;
+    assert_eq!(rt; text.as_str(), "n = 120");
+    Ok(())
+}
+
+#[test]
+fn blanks_are_left_out(rt: HostRuntime) {
+    assert_eq!(rt; after_blanks(b" \t n "), b"n ".as_slice());
+}
