@@ -5,18 +5,19 @@ use Rattle.std.proofs.lemmas.Grind.{common_steps}
 use Rattle.std.proofs.lemmas.List.Elements.{filter_agree}
 use Rattle.std.specs.Option.{option_map, option_map_or}
 use Rattle.std.specs.Prelude.{if◌then◌else◌, ◌==◌, nat_le}
-use Rattle.vc_context.specs.Reading.{Front, ◌>>=◌, skip, after, closed, item_behind, item_front, items_by, items_front, letters_in, letters_until}
-use Rattle.vc_context.specs.Spelling.{Range, AreBlanks, SpellsItem, SpellsItems, SpellsAlphabet, is_between, is_named}
+use Rattle.vc_context.specs.Reading.{Front, ◌>>=◌, after, closed, item_behind, item_front, items_by, items_front, letters_in, letters_until}
+use Rattle.vc_context.specs.Spelling.{SpellsAlphabet}
+use Rattle.vc_context.specs.Spelling.{Range, SpellsItem, SpellsItems, is_between, is_named}
+use Rattle.vc_text.specs.Blanks.{after_blanks, AreBlanks, is_blank}
 use Rattle.vc_context.proofs.Fronts.{Begins, both_true, skip_blanks, skip_other, blanks_before, after_sound, after_read}
-use Rattle.vc_context.proofs.Items.{NoDash, item_read, item_sound, spelled_is_letter}
+use Rattle.vc_context.proofs.Items.{NoDash, item_read, item_sound}
+use Rattle.vc_text.specs.LetterLaws.{spelled_is_letter}
 use Rattle.vc_context.proofs.Steps.{map_some, map_is, found, found_is}
 use Rattle.vc_label.specs.Alphabets.{has_letter, letters_of}
 use Rattle.vc_label.specs.Letters.{is_letter}
 use Rattle.vc_label.specs.declared.alphabet.Alphabet.{Alphabet}
-use Rattle.vc_lex.specs.Grammar.{SpellsLetter}
-use Rattle.vc_lex.specs.Letters.{is_plain, is_escaped, letter_in}
-use Rattle.vc_lex.specs.Scans.{is_blank}
-use Rattle.vc_lex.specs.declared.letters.LetterAt.{LetterAt}
+use Rattle.vc_text.specs.Letters.{SpellsLetter, is_plain, is_escaped, letter_in}
+use Rattle.vc_text.specs.declared.letters.LetterAt.{LetterAt}
 use Rattle.vc_model.specs.Lists.{In, up_from}
 use Rattle.vc_model.specs.Members.{In-filter, In-filter_from, up_from-In}
 
@@ -111,8 +112,8 @@ item_solid text r (inr (first, last, e, is_first, is_last, below)) = subst Solid
 solid_no_dash : (text rest : List ℕ) → Solid text → NoDash (text ++ rest)
 solid_no_dash text rest (c, tail, e, solid, dash) = subst (λ (t : List ℕ). NoDash (t ++ rest)) (sym e) dash
 
-solid_skip : (text rest : List ℕ) → Solid text → skip (text ++ rest) ≡ text ++ rest
-solid_skip text rest (c, tail, e, solid, dash) = subst (λ (t : List ℕ). skip (t ++ rest) ≡ t ++ rest) (sym e) (skip_other c (tail ++ rest) solid)
+solid_skip : (text rest : List ℕ) → Solid text → after_blanks (text ++ rest) ≡ text ++ rest
+solid_skip text rest (c, tail, e, solid, dash) = subst (λ (t : List ℕ). after_blanks (t ++ rest) ≡ t ++ rest) (sym e) (skip_other c (tail ++ rest) solid)
 
 solid_long : (text : List ℕ) → Solid text → 1 ≤ length text
 solid_long text (c, tail, e, solid, dash) = subst (λ (t : List ℕ). 1 ≤ length t) (sym e) (omega arith)
@@ -196,15 +197,15 @@ pub until_read : (c : ℕ) (s rest text : List ℕ) (ranges : List Range) → Cl
 until_read c s rest text [] closes e (before, next, at, are, (blanks, last, behind, spaced, end)) =
     let empty : next ≡ blanks ++ (c ∷ rest) = behind ∙ ap (λ t. blanks ++ (c ∷ t)) end in
     let whole : s ≡ before ++ (blanks ++ (c ∷ rest)) = at ∙ ap (λ t. before ++ (t ++ next)) e ∙ ap (λ t. before ++ t) empty in
-    let skipped : skip s ≡ c ∷ rest = ap skip whole ∙ skip_blanks before (blanks ++ (c ∷ rest)) are ∙ skip_blanks blanks (c ∷ rest) spaced ∙ skip_other c rest closes.solid in
+    let skipped : after_blanks s ≡ c ∷ rest = ap after_blanks whole ∙ skip_blanks before (blanks ++ (c ∷ rest)) are ∙ skip_blanks blanks (c ∷ rest) spaced ∙ skip_other c rest closes.solid in
     ap (λ t. closed (c ∷ []) (letters_from t)) skipped
     ∙ ap (λ (p : Items). closed (c ∷ []) (letters_in p.0, p.1)) (stop_here (length (c ∷ rest)) (c ∷ rest) (no_item (c ∷ rest) closes.stops))
     ∙ closed_now [] c [] rest closes refl
 until_read c s rest text (r ∷ ranges) closes items (before, next, at, are, (blanks, last, behind, spaced, end)) =
     let empty : next ≡ blanks ++ (c ∷ rest) = behind ∙ ap (λ t. blanks ++ (c ∷ t)) end in
     let solid : Solid text = subst Solid (sym items.2) (solid_more items.0 items.1 (item_solid items.0 r items.3)) in
-    let skipped : skip s ≡ text ++ (blanks ++ (c ∷ rest)) =
-    ap skip at ∙ skip_blanks before (text ++ next) are ∙ solid_skip text next solid ∙ ap (λ t. text ++ t) empty in
+    let skipped : after_blanks s ≡ text ++ (blanks ++ (c ∷ rest)) =
+    ap after_blanks at ∙ skip_blanks before (text ++ next) are ∙ solid_skip text next solid ∙ ap (λ t. text ++ t) empty in
     let whole : length text ≤ length (text ++ (blanks ++ (c ∷ rest))) = omega (arith, length-append text (blanks ++ (c ∷ rest))) in
     ap (λ t. closed (c ∷ []) (letters_from t)) skipped
     ∙ ap (λ (p : Items). closed (c ∷ []) (letters_in p.0, p.1))
@@ -214,11 +215,11 @@ until_read c s rest text (r ∷ ranges) closes items (before, next, at, are, (bl
 pub until_sound : (close s letters rest : List ℕ) → letters_until close s ≡ found letters rest
     → (text : List ℕ) × (ranges : List Range) × Begins (text ∷ close ∷ []) s rest × SpellsItems text ranges × (letters_in ranges ≡ letters)
 until_sound close s letters rest e =
-    let ranges : List Range = (items_front (skip s)).0 in
-    let middle : List ℕ = (items_front (skip s)).1 in
+    let ranges : List Range = (items_front (after_blanks s)).0 in
+    let middle : List ℕ = (items_front (after_blanks s)).1 in
     let end = map_some (λ t. (letters_in ranges, t)) (after close middle) (letters, rest) e in
     let (same, last) = found_is (letters_in ranges) letters end.0 rest (ap Some end.2) in
-    let items = items_sound (length (skip s)) (skip s) in
+    let items = items_sound (length (after_blanks s)) (after_blanks s) in
     let spaced = blanks_before s in
     let shut = after_sound close middle end.0 end.1 in (
       items.0,

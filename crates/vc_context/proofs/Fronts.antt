@@ -6,9 +6,9 @@ use Rattle.std.specs.Borrow.{Bor}
 use Rattle.std.specs.List.{list_all}
 use Rattle.std.specs.Option.{option_copied}
 use Rattle.std.specs.Prelude.{if◌then◌else◌, ◌==◌, MatchOption}
-use Rattle.vc_context.specs.Reading.{skip, strip, after}
-use Rattle.vc_context.specs.Spelling.{AreBlanks, Spaced}
-use Rattle.vc_lex.specs.Scans.{is_blank}
+use Rattle.vc_context.specs.Reading.{strip, after}
+use Rattle.vc_context.specs.Spelling.{Spaced}
+use Rattle.vc_text.specs.Blanks.{after_blanks, AreBlanks, is_blank}
 
 pub both_true : (b c : Bool) → (b && c) ≡ true → (b ≡ true) × (c ≡ true)
 both_true true c e = (refl, e)
@@ -17,30 +17,30 @@ both_true false c e = absurd (cc)
 pub are_both : (b c : Bool) → b ≡ true → c ≡ true → (b && c) ≡ true
 are_both b c e f = rw (e, f) refl
 
-pub skip_blank : (x : ℕ) (s : List ℕ) → is_blank x ≡ true → skip (x ∷ s) ≡ skip s
-skip_blank x s e = ap (λ b. if b then skip s else x ∷ s) e
+pub skip_blank : (x : ℕ) (s : List ℕ) → is_blank x ≡ true → after_blanks (x ∷ s) ≡ after_blanks s
+skip_blank x s e = ap (λ b. if b then after_blanks s else x ∷ s) e
 
-pub skip_other : (x : ℕ) (s : List ℕ) → is_blank x ≡ false → skip (x ∷ s) ≡ x ∷ s
-skip_other x s e = ap (λ b. if b then skip s else x ∷ s) e
+pub skip_other : (x : ℕ) (s : List ℕ) → is_blank x ≡ false → after_blanks (x ∷ s) ≡ x ∷ s
+skip_other x s e = ap (λ b. if b then after_blanks s else x ∷ s) e
 
-pub skip_blanks : (blanks s : List ℕ) → AreBlanks blanks → skip (blanks ++ s) ≡ skip s
+pub skip_blanks : (blanks s : List ℕ) → AreBlanks blanks → after_blanks (blanks ++ s) ≡ after_blanks s
 skip_blanks [] s are = refl
 skip_blanks (x ∷ blanks) s are =
     let each = both_true (is_blank x) (list_all is_blank blanks) are in
     skip_blank x (blanks ++ s) each.0 ∙ skip_blanks blanks s each.1
 
-pub skip_all : (blanks : List ℕ) → AreBlanks blanks → skip blanks ≡ []
+pub skip_all : (blanks : List ℕ) → AreBlanks blanks → after_blanks blanks ≡ []
 skip_all [] are = refl
 skip_all (x ∷ blanks) are =
     let each = both_true (is_blank x) (list_all is_blank blanks) are in
     skip_blank x blanks each.0 ∙ skip_all blanks each.1
 
-pub blanks_before : (s : List ℕ) → (blanks : List ℕ) × (s ≡ blanks ++ skip s) × AreBlanks blanks
+pub blanks_before : (s : List ℕ) → (blanks : List ℕ) × (s ≡ blanks ++ after_blanks s) × AreBlanks blanks
 blanks_before [] = ([], refl, refl)
 blanks_before (x ∷ s) = more x s (is_blank x) refl (blanks_before s)
   where
-    more : (x : ℕ) (s : List ℕ) (b : Bool) → is_blank x ≡ b → ((blanks : List ℕ) × (s ≡ blanks ++ skip s) × AreBlanks blanks)
-        → (blanks : List ℕ) × (x ∷ s ≡ blanks ++ skip (x ∷ s)) × AreBlanks blanks
+    more : (x : ℕ) (s : List ℕ) (b : Bool) → is_blank x ≡ b → ((blanks : List ℕ) × (s ≡ blanks ++ after_blanks s) × AreBlanks blanks)
+        → (blanks : List ℕ) × (x ∷ s ≡ blanks ++ after_blanks (x ∷ s)) × AreBlanks blanks
     more x s true e (blanks, text, are) = (x ∷ blanks, ap (λ t. x ∷ t) text ∙ ap (λ t. x ∷ (blanks ++ t)) (sym (skip_blank x s e)), are_both (is_blank x) (list_all is_blank blanks) e are)
     more x s false e rest = ([], sym (skip_other x s e), refl)
 
@@ -72,15 +72,15 @@ stripped piece s (Some x) found = sym (ap (strip piece) found ∙ strip_read pie
 pub after_sound : (piece s rest : List ℕ) → after piece s ≡ Some rest → (blanks : List ℕ) × (s ≡ blanks ++ (piece ++ rest)) × AreBlanks blanks
 after_sound piece s rest e =
     let found = blanks_before s in
-    (found.0, found.1 ∙ ap (λ t. found.0 ++ t) (strip_sound piece (skip s) rest e), found.2)
+    (found.0, found.1 ∙ ap (λ t. found.0 ++ t) (strip_sound piece (after_blanks s) rest e), found.2)
 
 -- a piece that does not begin with a blank is found
-pub after_read : (piece blanks rest : List ℕ) → skip (piece ++ rest) ≡ piece ++ rest → AreBlanks blanks → after piece (blanks ++ (piece ++ rest)) ≡ Some rest
+pub after_read : (piece blanks rest : List ℕ) → after_blanks (piece ++ rest) ≡ piece ++ rest → AreBlanks blanks → after piece (blanks ++ (piece ++ rest)) ≡ Some rest
 after_read piece blanks rest first are = ap (strip piece) (skip_blanks blanks (piece ++ rest) are ∙ first) ∙ strip_read piece rest
 
 -- blanks before a text change nothing of what is found
-pub after_blanks : (piece blanks s : List ℕ) → AreBlanks blanks → after piece (blanks ++ s) ≡ after piece s
-after_blanks piece blanks s are = ap (strip piece) (skip_blanks blanks s are)
+pub blanks_before_piece : (piece blanks s : List ℕ) → AreBlanks blanks → after piece (blanks ++ s) ≡ after piece s
+blanks_before_piece piece blanks s are = ap (strip piece) (skip_blanks blanks s are)
 
 -- the pieces stand at the front of a text, each behind blanks, and this text behind them
 abbrev pub Begins : List (List ℕ) → List ℕ → List ℕ → Type 0
@@ -115,12 +115,12 @@ begins_spaced (piece ∷ pieces) s rest (blanks, next, text, behind, begins) are
     (blanks, next, text, behind, begins_spaced pieces next rest begins are)
 
 -- nothing is left behind blanks exactly where all bytes are blanks
-pub skipped_all : (s : List ℕ) → (length (skip s) == 0) ≡ list_all is_blank s
+pub skipped_all : (s : List ℕ) → (length (after_blanks s) == 0) ≡ list_all is_blank s
 skipped_all [] = refl
 skipped_all (x ∷ s) = at_blank x s (is_blank x) refl (skipped_all s)
   where
-    at_blank : (x : ℕ) (s : List ℕ) (b : Bool) → is_blank x ≡ b → (length (skip s) == 0) ≡ list_all is_blank s
-        → (length (skip (x ∷ s)) == 0) ≡ (is_blank x && list_all is_blank s)
+    at_blank : (x : ℕ) (s : List ℕ) (b : Bool) → is_blank x ≡ b → (length (after_blanks s) == 0) ≡ list_all is_blank s
+        → (length (after_blanks (x ∷ s)) == 0) ≡ (is_blank x && list_all is_blank s)
     at_blank x s true e same = ap (λ t. length t == 0) (skip_blank x s e) ∙ same ∙ ap (λ b. b && list_all is_blank s) (sym e)
     at_blank x s false e same =
         let some : (length (x ∷ s) == 0) ≡ false = grind (arith, nat_tests) in

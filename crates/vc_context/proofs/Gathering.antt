@@ -2,14 +2,16 @@
 use Rattle.std.proofs.Common.{◌≡◌, ℕ, zero, suc, ◌+◌, ◌<◌, ◌≤◌, Bool, true, false, ◌&&◌, ◌||◌, List, [], ◌∷◌, length, Some, None, refl, ap, sym, ◌∙◌, length-append, arith}
 use Rattle.std.proofs.lemmas.Bool.Decides.{nat_tests}
 use Rattle.std.specs.Option.{option_map_or}
-use Rattle.std.specs.Prelude.{nat_le, nat_lt}
-use Rattle.vc_context.specs.Reading.{Front, skip, item_front, items_by, items_front, letters_in, letters_front}
+use Rattle.std.specs.Prelude.{nat_le, IsTrue}
+use Rattle.vc_context.specs.Reading.{Front, item_front, items_by, items_front, letters_in, letters_front}
 use Rattle.vc_context.specs.Spelling.{Range, is_between, is_named}
 use Rattle.vc_context.proofs.Alphabets.{Items, items_and, item_and, stop_here, item_long, letters_agree}
 use Rattle.vc_context.proofs.Items.{item_sound}
 use Rattle.vc_context.proofs.Steps.{found}
 use Rattle.vc_label.specs.Alphabets.{has_letter, letters_of}
+use Rattle.vc_label.specs.Letters.{is_letter}
 use Rattle.vc_label.specs.declared.alphabet.Alphabet.{Alphabet}
+use Rattle.vc_text.specs.Blanks.{after_blanks}
 
 -- what stands behind an item is shorter
 pub item_shorter : (s : List ℕ) (r : Range) (rest : List ℕ) → item_front s ≡ found r rest → length rest < length s
@@ -68,17 +70,17 @@ rest_more s rest r end e before = ap (λ (p : Items). p.1) (sym (items_more s r 
 
 -- and the last
 pub letters_all : (a : Alphabet) (text rest : List ℕ) → item_front rest ≡ None
-    → ((x : ℕ) → (has_letter a x || is_named (items_front rest).0 x) ≡ is_named (items_front (skip text)).0 x)
-    → (items_front rest).1 ≡ (items_front (skip text)).1
+    → ((x : ℕ) → (has_letter a x || is_named (items_front rest).0 x) ≡ is_named (items_front (after_blanks text)).0 x)
+    → (items_front rest).1 ≡ (items_front (after_blanks text)).1
     → (let r : List ℕ × List ℕ = (letters_of a, rest) in r) ≡ letters_front text
 letters_all a text rest e letters end =
     let none : items_front rest ≡ items_and [] rest = stop_here (length rest) rest e in
-    let agree : (x : ℕ) → has_letter a x ≡ is_named (items_front (skip text)).0 x =
+    let agree : (x : ℕ) → has_letter a x ≡ is_named (items_front (after_blanks text)).0 x =
     λ x. sym (nothing_more (has_letter a x)) ∙ ap (λ (p : Items). has_letter a x || is_named p.0 x) (sym none) ∙ letters x in
-    let same : letters_of a ≡ letters_in (items_front (skip text)).0 = sym (letters_agree a (items_front (skip text)).0 agree) in
-    let behind : rest ≡ (items_front (skip text)).1 = ap (λ (p : Items). p.1) (sym none) ∙ end in
-    ap (λ l. (let r : List ℕ × List ℕ = (l, rest) in r)) same ∙ ap (λ t. (let r : List ℕ × List ℕ = (letters_in (items_front (skip text)).0, t) in r)) behind
+    let same : letters_of a ≡ letters_in (items_front (after_blanks text)).0 = sym (letters_agree a (items_front (after_blanks text)).0 agree) in
+    let behind : rest ≡ (items_front (after_blanks text)).1 = ap (λ (p : Items). p.1) (sym none) ∙ end in
+    ap (λ l. (let r : List ℕ × List ℕ = (l, rest) in r)) same ∙ ap (λ t. (let r : List ℕ × List ℕ = (letters_in (items_front (after_blanks text)).0, t) in r)) behind
 
--- the letters of a range, where the letter behind its last is reached
-pub range_all : (first last letter x : ℕ) → letter ≤ last + 1 → last < letter → (nat_le first x && nat_lt x letter) ≡ (nat_le first x && nat_le x last)
-range_all first last letter x high low = grind (arith, nat_tests)
+-- between two letters stand letters alone
+pub between_letters : (first last x : ℕ) → IsTrue (is_letter first) → IsTrue (is_letter last) → (is_letter x && (nat_le first x && nat_le x last)) ≡ (nat_le first x && nat_le x last)
+between_letters first last x low high = grind (arith, nat_tests)

@@ -3,9 +3,10 @@ use Rattle.std.proofs.Common.{◌≡◌, ℕ, List, [], ◌∷◌, ◌++◌, Som
 use Rattle.std.specs.Prelude.{codes}
 use Rattle.std.specs.Option.{option_map, option_map_or}
 use Rattle.vc_context.specs.Reading.{◌>>=◌, after, letters_until, Tape, tape_of, with_kind, called_front, angled_front, letters_called, nullable_set, nullable_called, words_called, kind_behind, bracketed_front, named_front, tape_front, choose}
-use Rattle.vc_context.specs.Spelling.{Frame, AreBlanks, SpellsAlphabet, letters_frames, named_frames, bracket_frame, IsFramed, IsNamed, IsBracketed, IsTape}
+use Rattle.vc_context.specs.Spelling.{Frame, SpellsAlphabet, letters_frames, named_frames, bracket_frame, IsFramed, IsNamed, IsBracketed, IsTape}
+use Rattle.vc_text.specs.Blanks.{AreBlanks}
 use Rattle.vc_context.proofs.Alphabets.{alphabet_read, bracket_closes}
-use Rattle.vc_context.proofs.Fronts.{Begins, after_blanks, begins_split}
+use Rattle.vc_context.proofs.Fronts.{Begins, blanks_before_piece, begins_split}
 use Rattle.vc_context.proofs.OneTape.{Framed}
 use Rattle.vc_context.proofs.OneRead.{piece_read, tape_with, letters_read, nullable_read, words_read, angled_member}
 use Rattle.vc_context.proofs.Steps.{bind_is, map_is, choose_is, choose_not, found}
@@ -38,7 +39,7 @@ NoneOf (other ∷ others) s = (after other s ≡ None) × NoneOf others s
 pub none_of : (name : List ℕ) (others : List (List ℕ)) (s : List ℕ) → Starts name s → AreApart name others → NoneOf others s
 none_of name [] s starts apart = tt
 none_of name (other ∷ others) s starts apart =
-    (ap (after other) starts.at ∙ after_blanks other starts.blanks (name ++ starts.next) starts.are ∙ apart.0 starts.next, none_of name others s starts apart.1)
+    (ap (after other) starts.at ∙ blanks_before_piece other starts.blanks (name ++ starts.next) starts.are ∙ apart.0 starts.next, none_of name others s starts apart.1)
 
 -- what tells a tape with a name from lists and from brackets
 abbrev pub others : List (List ℕ)

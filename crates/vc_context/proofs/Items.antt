@@ -1,31 +1,15 @@
 -- Letters and items at the front of a text.
-use Rattle.std.proofs.Common.{◌≡◌, ℕ, ◌+◌, ◌≤◌, Bool, true, false, ◌&&◌, List, [], ◌∷◌, ◌++◌, drop, Some, None, refl, ap, sym, ◌∙◌, subst, append_assoc, inl, inr, arith, IsTrue}
+use Rattle.std.proofs.Common.{◌≡◌, ℕ, ◌+◌, ◌≤◌, Bool, true, false, ◌&&◌, List, [], ◌∷◌, ◌++◌, drop, Some, None, refl, ap, sym, ◌∙◌, subst, append_assoc, inl, inr, arith}
 use Rattle.std.proofs.lemmas.Bool.{eqb-true}
 use Rattle.std.proofs.lemmas.Bool.Decides.{nat_tests}
-use Rattle.std.proofs.lemmas.Grind.{common_steps}
 use Rattle.std.specs.Option.{option_map}
 use Rattle.std.specs.Prelude.{if◌then◌else◌, ◌==◌, nat_le}
 use Rattle.vc_context.specs.Reading.{letter_front, single, range_to, item_behind, item_front}
 use Rattle.vc_context.specs.Spelling.{Range, SpellsItem}
 use Rattle.vc_context.proofs.Fronts.{both_true}
 use Rattle.vc_context.proofs.Steps.{bind_some, bind_is, found, found_is}
-use Rattle.vc_label.specs.Letters.{is_letter}
-use Rattle.vc_lex.specs.Grammar.{SpellsLetter}
-use Rattle.vc_lex.specs.Letters.{is_plain, is_escaped}
-use Rattle.vc_lex.specs.declared.letters.LetterAt.{LetterAt}
-
--- letters are bytes from 0x21 to 0x7E
-plain_is_letter : (x : ℕ) → is_plain x ≡ true → IsTrue (is_letter x)
-unfolding is_plain
-plain_is_letter x e = grind (arith, common_steps, nat_tests)
-
-escaped_is_letter : (x : ℕ) → is_escaped x ≡ true → IsTrue (is_letter x)
-unfolding is_escaped
-escaped_is_letter x e = grind (arith, common_steps, nat_tests)
-
-pub spelled_is_letter : (text : List ℕ) (x : ℕ) → SpellsLetter text x → IsTrue (is_letter x)
-spelled_is_letter text x (inl spelled) = plain_is_letter x spelled.0
-spelled_is_letter text x (inr spelled) = escaped_is_letter x spelled.0
+use Rattle.vc_text.specs.Letters.{SpellsLetter, is_plain, is_escaped}
+use Rattle.vc_text.specs.declared.letters.LetterAt.{LetterAt}
 
 slash_is_not_plain : is_plain 92 ≡ false
 unfolding is_plain

@@ -4,17 +4,17 @@ use Rattle.std.proofs.lemmas.Bool.{eqb-true}
 use Rattle.std.specs.Prelude.{codes, map, if◌then◌else◌, ◌==◌}
 use Rattle.std.specs.List.{list_all}
 use Rattle.std.specs.Option.{option_map}
-use Rattle.vc_context.specs.Reading.{Front, skip, strip, after, Tape, tape_of, choose, cross_behind, cross, one_by, mark_by, before, tapes_by}
-use Rattle.vc_context.specs.Spelling.{AreBlanks, IsBracketed, IsTape, AreJoined, IsComma, IsCross}
+use Rattle.vc_context.specs.Reading.{Front, strip, after, Tape, tape_of, choose, cross_behind, cross, one_by, mark_by, before, tapes_by}
+use Rattle.vc_context.specs.Spelling.{IsBracketed, IsTape, AreJoined, IsComma, IsCross}
+use Rattle.vc_text.specs.Blanks.{after_blanks, AreBlanks, is_blank}
 use Rattle.vc_context.specs.declared.joined.Style.{Style}
 use Rattle.vc_context.specs.declared.joined.Style.TheVariants.{Commas, Crosses}
 use Rattle.vc_context.proofs.Alphabets.{AreListed}
-use Rattle.vc_context.proofs.Fronts.{Begins, both_true, are_both, skip_blank, skip_other, skip_blanks, blanks_before, begins_one, begins_both, begins_split, after_read, after_blanks}
+use Rattle.vc_context.proofs.Fronts.{Begins, both_true, are_both, skip_blank, skip_other, skip_blanks, blanks_before, begins_one, begins_both, begins_split, after_read, blanks_before_piece}
 use Rattle.vc_context.proofs.Heads.{Starts, NoKind, bracketed_read, bracketed_starts, tape_read}
 use Rattle.vc_context.proofs.OneTape.{At, bracketed_sound, tape_sound}
 use Rattle.vc_context.proofs.Steps.{bind_some, map_some, choose_some, bind_is, map_is, choose_is, choose_not, found, found_is}
 use Rattle.vc_label.specs.declared.tape_set.TapeSet.{TapeSet}
-use Rattle.vc_lex.specs.Scans.{is_blank}
 
 -- the marks and the tapes of each style
 abbrev pub IsMarkOf : Style → List ℕ → Type 0
@@ -27,8 +27,8 @@ IsOneOf Crosses pieces set = IsBracketed pieces set
 
 -- ---- crosses
 
-cross_at : (b : ℕ) (s : List ℕ) → is_blank b ≡ true → cross (b ∷ s) ≡ cross_behind (skip s)
-cross_at b s e = ap (λ c. if c then cross_behind (skip s) else None) e
+cross_at : (b : ℕ) (s : List ℕ) → is_blank b ≡ true → cross (b ∷ s) ≡ cross_behind (after_blanks s)
+cross_at b s e = ap (λ c. if c then cross_behind (after_blanks s) else None) e
 
 cross_after : (blanks : List ℕ) (x y : ℕ) (next : List ℕ) → AreBlanks blanks → is_blank x ≡ true → is_blank y ≡ true
     → cross (blanks ++ (x ∷ 120 ∷ y ∷ next)) ≡ Some next
@@ -45,7 +45,7 @@ behind_other c (y ∷ next) other = ap (λ b. if b && is_blank y then Some next 
 
 -- another byte behind blanks is no cross
 pub no_cross : (blanks : List ℕ) (c : ℕ) (next : List ℕ) → AreBlanks blanks → is_blank c ≡ false → (c == 120) ≡ false → cross (blanks ++ c ∷ next) ≡ None
-no_cross [] c next are solid other = ap (λ b. if b then cross_behind (skip next) else None) solid
+no_cross [] c next are solid other = ap (λ b. if b then cross_behind (after_blanks next) else None) solid
 no_cross (b ∷ blanks) c next are solid other =
     let each = both_true (is_blank b) (list_all is_blank blanks) are in
     cross_at b (blanks ++ c ∷ next) each.0 ∙ ap cross_behind (skip_blanks blanks (c ∷ next) each.1 ∙ skip_other c next solid) ∙ behind_other c next other
@@ -79,10 +79,10 @@ cross_sound : (s next : List ℕ) → cross s ≡ Some next → Mark Crosses s n
 cross_sound [] next e = absurd (cc)
 cross_sound (b ∷ s) next e = at_blank (is_blank b) refl e
   where
-    at_blank : (c : Bool) → is_blank b ≡ c → (if c then cross_behind (skip s) else None) ≡ Some next → Mark Crosses (b ∷ s) next
+    at_blank : (c : Bool) → is_blank b ≡ c → (if c then cross_behind (after_blanks s) else None) ≡ Some next → Mark Crosses (b ∷ s) next
     at_blank true first f =
         let (blanks, text, are) = blanks_before s in
-        let (y, same, last) = behind_sound (skip s) next f in
+        let (y, same, last) = behind_sound (after_blanks s) next f in
         let (front, x, rest, spaced, blank) = last_blank b blanks first are in (
           x ∷ 120 ∷ y ∷ [],
           (x, y, refl, blank, last),
@@ -111,13 +111,13 @@ mark_read Commas mark blanks s next is at are =
     record {
       is_mark = ap (after (codes ",")) whole ∙ after_read (codes ",") blanks next refl are;
       no_kind = record {
-        question = ap (after (codes "?")) whole ∙ after_blanks (codes "?") blanks (codes "," ++ next) are;
-        star = ap (after (codes "*")) whole ∙ after_blanks (codes "*") blanks (codes "," ++ next) are;
+        question = ap (after (codes "?")) whole ∙ blanks_before_piece (codes "?") blanks (codes "," ++ next) are;
+        star = ap (after (codes "*")) whole ∙ blanks_before_piece (codes "*") blanks (codes "," ++ next) are;
       };
     }
 mark_read Crosses mark blanks s next (x, y, is, first, last) at are =
     let whole : s ≡ blanks ++ (x ∷ 120 ∷ y ∷ next) = at ∙ ap (λ t. blanks ++ (t ++ next)) is in
-    let skipped : skip s ≡ 120 ∷ y ∷ next = ap skip whole ∙ skip_blanks blanks (x ∷ 120 ∷ y ∷ next) are ∙ skip_blank x (120 ∷ y ∷ next) first in
+    let skipped : after_blanks s ≡ 120 ∷ y ∷ next = ap after_blanks whole ∙ skip_blanks blanks (x ∷ 120 ∷ y ∷ next) are ∙ skip_blank x (120 ∷ y ∷ next) first in
     record {
       is_mark = ap cross whole ∙ cross_after blanks x y next are first last;
       no_kind = record { question = ap (strip (codes "?")) skipped; star = ap (strip (codes "*")) skipped };

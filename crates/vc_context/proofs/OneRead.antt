@@ -4,22 +4,22 @@ use Rattle.std.proofs.lemmas.Bool.{eqb-true}
 use Rattle.std.specs.Prelude.{codes, map, if◌then◌else◌, ◌==◌}
 use Rattle.std.specs.List.{list_all}
 use Rattle.std.specs.Option.{option_map}
-use Rattle.vc_context.specs.Reading.{Front, ◌>>=◌, skip, strip, after, closed, letters_until, Tape, with_kind, called_front, angled_front, letters_called, nullable_set, nullable_called, words_called, choose}
-use Rattle.vc_context.specs.Spelling.{Frame, AreBlanks, SpellsAlphabet, letters_frames, named_frames, angled}
+use Rattle.vc_context.specs.Reading.{Front, ◌>>=◌, strip, after, closed, letters_until, Tape, with_kind, called_front, angled_front, letters_called, nullable_set, nullable_called, words_called, choose}
+use Rattle.vc_context.specs.Spelling.{Frame, SpellsAlphabet, letters_frames, named_frames, angled}
+use Rattle.vc_text.specs.Blanks.{after_blanks, AreBlanks, is_blank}
 use Rattle.vc_context.proofs.Alphabets.{alphabet_read, parenthesis_closes}
-use Rattle.vc_context.proofs.Fronts.{Begins, both_true, after_read, after_blanks, begins_split}
+use Rattle.vc_context.proofs.Fronts.{Begins, both_true, after_read, blanks_before_piece, begins_split}
 use Rattle.vc_context.proofs.OneTape.{Framed}
 use Rattle.vc_context.proofs.Steps.{bind_is, map_is, choose_is, choose_not, found}
 use Rattle.vc_label.specs.Alphabets.{letters_of}
 use Rattle.vc_label.specs.declared.alphabet.Alphabet.{Alphabet}
 use Rattle.vc_label.specs.declared.tape_set.TapeKind.{TapeKind}
 use Rattle.vc_label.specs.declared.tape_set.TapeKind.TheVariants.{Nullable, Words}
-use Rattle.vc_lex.specs.Scans.{is_blank}
 use Rattle.vc_model.specs.Lists.{In}
 
 -- a piece that begins with no blank
 abbrev pub IsSolid : List ℕ → Type 0
-IsSolid piece = (t : List ℕ) → skip (piece ++ t) ≡ piece ++ t
+IsSolid piece = (t : List ℕ) → after_blanks (piece ++ t) ≡ piece ++ t
 
 -- the piece at the front is found
 pub piece_read : (piece : List ℕ) (pieces : List (List ℕ)) (s rest : List ℕ) → IsSolid piece → Begins (piece ∷ pieces) s rest
@@ -88,7 +88,7 @@ module _ (a : Alphabet) where
   second_name kind name tail s rest other solid longer goes (text, spells, (blanks, next, at, are, (more, last, behind, spaced, begins))) =
       let here : after name s ≡ Some next = ap (after name) at ∙ after_read name blanks next (solid next) are in
       let not_longer : after (name ++ 95 ∷ tail) s ≡ None =
-      ap (after (name ++ 95 ∷ tail)) at ∙ after_blanks (name ++ 95 ∷ tail) blanks (name ++ next) are
+      ap (after (name ++ 95 ∷ tail)) at ∙ blanks_before_piece (name ++ 95 ∷ tail) blanks (name ++ next) are
       ∙ ap (strip (name ++ 95 ∷ tail)) (solid next) ∙ goes next ∙ ap (strip (95 ∷ tail)) behind ∙ no_tail 95 60 tail more last refl refl spaced in
       choose_not (after (name ++ 95 ∷ tail) s) (called_front kind) (choose (after name s) (angled_front kind (codes "char")) other) not_longer
       ∙ choose_is (after name s) (angled_front kind (codes "char")) other next here
@@ -100,7 +100,7 @@ module _ (a : Alphabet) where
 
   -- another name does not begin here
   pub other_name : (other name blanks next s : List ℕ) → s ≡ blanks ++ (name ++ next) → AreBlanks blanks → after other (name ++ next) ≡ None → after other s ≡ None
-  other_name other name blanks next s at are none = ap (after other) at ∙ after_blanks other blanks (name ++ next) are ∙ none
+  other_name other name blanks next s at are none = ap (after other) at ∙ blanks_before_piece other blanks (name ++ next) are ∙ none
 
   pub framed_as : (frame same : Frame) (s rest : List ℕ) → frame ≡ same → Framed frame.before frame.behind a s rest → Framed same.before same.behind a s rest
   framed_as frame same s rest e framed = subst (λ (f : Frame). Framed f.before f.behind a s rest) e framed

@@ -6,20 +6,20 @@ use Rattle.std.specs.Prelude.{codes, map, nat_le, if◌then◌else◌}
 use Rattle.std.specs.List.{list_all}
 use Rattle.std.specs.Option.{option_map, option_map_or}
 use Rattle.vc_context.specs.Reading.{Front, ◌>>=◌, after, closed, Tape, tape_of, choose, cross, named_front, tapes_by, several, listed_front, labels_front, arrow, is_last, weights_at, context_at}
-use Rattle.vc_context.specs.Spelling.{AreBlanks, Spaced, IsTape, AreJoined, IsComma, AreSeveral, IsLabels, IsArrow, weights_name, SpellsContext}
+use Rattle.vc_context.specs.Spelling.{Spaced, IsTape, AreJoined, IsComma, AreSeveral, IsLabels, IsArrow, weights_name, SpellsContext}
+use Rattle.vc_text.specs.Blanks.{AreBlanks, is_blank}
 use Rattle.vc_context.specs.declared.context.Weights.{Weights}
 use Rattle.vc_context.specs.declared.context.Weights.TheVariants.{B, F2, Z, Q, Nmin}
 use Rattle.vc_context.specs.declared.joined.Style.{Style}
 use Rattle.vc_context.specs.declared.joined.Style.TheVariants.{Commas, Crosses}
 use Rattle.vc_context.proofs.Alphabets.{AreListed}
-use Rattle.vc_context.proofs.Fronts.{Begins, begins_one, begins_both, begins_split, begins_spaced, spaced_begins, after_sound, after_read, after_blanks}
+use Rattle.vc_context.proofs.Fronts.{Begins, begins_one, begins_both, begins_split, begins_spaced, spaced_begins, after_sound, after_read, blanks_before_piece}
 use Rattle.vc_context.proofs.Heads.{Starts, NoKind, begins_starts, none_of, no_bracket, named_read}
 use Rattle.vc_context.proofs.Joins.{Ends, Several, joined_read, joined_sound, tapes_few, crosses_start, no_cross, on}
 use Rattle.vc_context.proofs.OneRead.{IsSolid, piece_read, closed_read}
 use Rattle.vc_context.proofs.OneTape.{named_sound}
 use Rattle.vc_context.proofs.Steps.{bind_some, map_some, choose_some, bind_is, map_is, choose_is, choose_not, found, found_is}
 use Rattle.vc_label.specs.declared.tape_set.TapeSet.{TapeSet}
-use Rattle.vc_lex.specs.Scans.{is_blank}
 
 abbrev alone : Tape × List ℕ → List Tape × List ℕ
 alone t = (t.0 ∷ [], t.1)
@@ -112,7 +112,7 @@ last_read name s solid (blanks, rest, at, are, end) =
 
 last_other : (name other s : List ℕ) → Spaced (name ∷ []) s → ((t : List ℕ) → after other (name ++ t) ≡ None) → is_last other s ≡ false
 last_other name other s (blanks, rest, at, are, end) apart =
-    ap (λ o. option_map_or (list_all is_blank) o false) (ap (after other) at ∙ after_blanks other blanks (name ++ rest) are ∙ apart rest)
+    ap (λ o. option_map_or (list_all is_blank) o false) (ap (after other) at ∙ blanks_before_piece other blanks (name ++ rest) are ∙ apart rest)
 
 last_sound : (name s : List ℕ) → is_last name s ≡ true → Spaced (name ∷ []) s
 last_sound name s e = at_rest (after name s) refl e

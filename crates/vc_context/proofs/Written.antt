@@ -4,9 +4,11 @@ use Rattle.std.proofs.lemmas.Bool.Decides.{nat_tests}
 use Rattle.std.proofs.lemmas.Grind.{common_steps}
 use Rattle.std.specs.Prelude.{codes, map, if◌then◌else◌}
 use Rattle.std.specs.List.{flat_map}
-use Rattle.vc_context.specs.Canonical.{letter_text, kind_name, tape_text, comma_text, labels_text, context_text}
+use Rattle.vc_context.specs.Canonical.{kind_name, tape_text, comma_text, labels_text, context_text}
+use Rattle.vc_text.specs.Letters.{letter_text, SpellsLetter, is_plain, is_escaped}
 use Rattle.vc_context.specs.Reading.{Tape, tape_of, single}
-use Rattle.vc_context.specs.Spelling.{SpellsItems, SpellsAlphabet, is_between, is_named, called, named_frames, IsTape, AreJoined, IsComma, IsLabels, weights_name, SpellsContext}
+use Rattle.vc_context.specs.Spelling.{SpellsAlphabet, called, named_frames, IsTape, AreJoined, IsComma, IsLabels, weights_name, SpellsContext}
+use Rattle.vc_context.specs.Spelling.{SpellsItems, is_between, is_named}
 use Rattle.vc_context.specs.declared.context.Weights.{Weights}
 use Rattle.vc_context.proofs.Alphabets.{AreListed, same_tests, either}
 use Rattle.vc_context.proofs.Fronts.{Begins, begins_both, begins_spaced}
@@ -17,8 +19,6 @@ use Rattle.vc_label.specs.declared.alphabet.Alphabet.{Alphabet}
 use Rattle.vc_label.specs.declared.tape_set.TapeKind.{TapeKind}
 use Rattle.vc_label.specs.declared.tape_set.TapeKind.TheVariants.{Letters, Nullable, Words}
 use Rattle.vc_label.specs.declared.tape_set.TapeSet.{TapeSet}
-use Rattle.vc_lex.specs.Grammar.{SpellsLetter}
-use Rattle.vc_lex.specs.Letters.{is_plain, is_escaped}
 use Rattle.vc_model.specs.Lists.{In}
 
 -- ---- letters

@@ -1,5 +1,5 @@
 -- The one canonical text of each context.
-use Rattle.std.specs.Prelude.{ℕ, List, [], ◌∷◌, ◌++◌, codes, if◌then◌else◌}
+use Rattle.std.specs.Prelude.{ℕ, List, [], ◌∷◌, ◌++◌, codes}
 use Rattle.std.specs.List.{flat_map}
 use Rattle.vc_context.specs.Spelling.{weights_name}
 use Rattle.vc_context.specs.declared.context.Weights.{Weights}
@@ -7,11 +7,7 @@ use Rattle.vc_label.specs.Alphabets.{letters_of}
 use Rattle.vc_label.specs.declared.tape_set.TapeKind.{TapeKind}
 use Rattle.vc_label.specs.declared.tape_set.TapeKind.TheVariants.{Letters, Nullable, Words}
 use Rattle.vc_label.specs.declared.tape_set.TapeSet.{TapeSet}
-use Rattle.vc_lex.specs.Letters.{is_plain}
-
--- a letter, with a backslash before it where it is not plain
-abbrev pub letter_text : ℕ → List ℕ
-letter_text x = if is_plain x then x ∷ [] else 92 ∷ x ∷ []
+use Rattle.vc_text.specs.Letters.{letter_text}
 
 -- the name of each kind
 abbrev pub kind_name : TapeKind → List ℕ

@@ -3,4 +3,3 @@ pub mod Sets
 pub mod Canonical
 pub mod Reading
 pub mod Gathered
-pub mod Growth

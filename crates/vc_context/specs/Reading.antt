@@ -11,9 +11,9 @@ use Rattle.vc_label.specs.declared.tape_set.TapeKind.{TapeKind}
 use Rattle.vc_label.specs.declared.tape_set.TapeKind.TheVariants.{Letters, Nullable, Words}
 use Rattle.vc_label.specs.declared.tape_set.TapeSet.{TapeSet}
 use Rattle.vc_label.specs.Alphabets.{letters_of}
-use Rattle.vc_lex.specs.Letters.{letter_in}
-use Rattle.vc_lex.specs.Scans.{is_blank}
-use Rattle.vc_lex.specs.declared.letters.LetterAt.{LetterAt}
+use Rattle.vc_text.specs.Letters.{letter_in}
+use Rattle.vc_text.specs.Blanks.{is_blank, after_blanks}
+use Rattle.vc_text.specs.declared.letters.LetterAt.{LetterAt}
 use Rattle.vc_model.specs.Lists.{up_from}
 
 infixl 10 ◌>>=◌
@@ -30,11 +30,6 @@ abbrev pub choose : {A B : Type 0} → Option A → (A → Option B) → Option 
 choose None next other = other
 choose (Some x) next other = next x
 
--- the text from its first byte on that is no blank
-abbrev pub skip : List ℕ → List ℕ
-skip [] = []
-skip (x ∷ s) = if is_blank x then skip s else x ∷ s
-
 -- what stands behind this front of a text
 abbrev pub strip : List ℕ → List ℕ → Option (List ℕ)
 strip [] s = Some s
@@ -43,7 +38,7 @@ strip (c ∷ piece) (x ∷ s) = if x == c then strip piece s else None
 
 -- what stands behind blanks and this piece
 abbrev pub after : List ℕ → List ℕ → Option (List ℕ)
-after piece s = strip piece (skip s)
+after piece s = strip piece (after_blanks s)
 
 -- an answer, where this piece stands behind it
 abbrev pub closed : {A : Type 0} → List ℕ → A × List ℕ → Front A
@@ -87,7 +82,7 @@ letters_in ranges = filter (is_named ranges) (up_from 0x21 94)
 
 -- the letters of the items behind blanks
 abbrev pub letters_front : List ℕ → List ℕ × List ℕ
-letters_front s = (letters_in (items_front (skip s)).0, (items_front (skip s)).1)
+letters_front s = (letters_in (items_front (after_blanks s)).0, (items_front (after_blanks s)).1)
 
 -- the letters, where this piece stands behind them
 abbrev pub letters_until : List ℕ → List ℕ → Front (List ℕ)
@@ -174,7 +169,7 @@ cross_behind (x ∷ b ∷ s) = if x == 120 && is_blank b then Some s else None
 -- behind blanks, `x` and a blank
 abbrev pub cross : List ℕ → Option (List ℕ)
 cross [] = None
-cross (b ∷ s) = if is_blank b then cross_behind (skip s) else None
+cross (b ∷ s) = if is_blank b then cross_behind (after_blanks s) else None
 
 abbrev pub one_by : Style → List ℕ → Front Tape
 one_by Commas s = tape_front s

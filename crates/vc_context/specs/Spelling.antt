@@ -1,6 +1,6 @@
 -- The texts of contexts: names, marks of punctuation and the letters of alphabets are pieces, with blanks before and behind each.
 use Rattle.std.specs.Prelude.{◌≡◌, ◌⊎◌, ◌≤◌, ℕ, Bool, true, ◌&&◌, nat_le, List, [], ◌∷◌, ◌++◌, map, length, codes}
-use Rattle.std.specs.List.{list_all, list_any}
+use Rattle.std.specs.List.{list_any}
 use Rattle.vc_context.specs.declared.context.Weights.{Weights}
 use Rattle.vc_context.specs.declared.context.Weights.TheVariants.{B, F2, Z, Q, Nmin}
 use Rattle.vc_label.specs.Alphabets.{has_letter}
@@ -8,13 +8,9 @@ use Rattle.vc_label.specs.declared.alphabet.Alphabet.{Alphabet}
 use Rattle.vc_label.specs.declared.tape_set.TapeKind.{TapeKind}
 use Rattle.vc_label.specs.declared.tape_set.TapeKind.TheVariants.{Letters, Nullable, Words}
 use Rattle.vc_label.specs.declared.tape_set.TapeSet.{TapeSet}
-use Rattle.vc_lex.specs.Grammar.{SpellsLetter}
-use Rattle.vc_lex.specs.Scans.{is_blank}
+use Rattle.vc_text.specs.Letters.{SpellsLetter}
+use Rattle.vc_text.specs.Blanks.{is_blank, AreBlanks}
 use Rattle.vc_model.specs.Lists.{In}
-
--- any number of spaces and tabs
-abbrev pub AreBlanks : List ℕ → Type 0
-AreBlanks text = list_all is_blank text ≡ true
 
 -- the pieces one behind another, with any number of blanks before and behind each
 abbrev pub Spaced : List (List ℕ) → List ℕ → Type 0

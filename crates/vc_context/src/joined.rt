@@ -2,9 +2,10 @@ ghost use Rattle.std.specs.Prelude.{◌≡◌, map};
 ghost use Rattle.std.specs.Option.{option_map, option_copied};
 ghost use Rattle.vc_context.specs.Reading.{tape_of, cross_behind, cross, one_by, mark_by, tapes_by};
 
-use crate::pieces::{after, skip};
+use crate::pieces::after;
 use crate::tapes::{bracketed, tape};
 use vc_label::TapeSet;
+use vc_text::after_blanks;
 
 /// How tapes are written one behind another.
 #[derive(Clone, Copy)]
@@ -29,7 +30,7 @@ fn cross(text: &[u8]) -> Option<&[u8]>
     ensures { option_copied result ≡ cross text.now }
 {
     match text {
-        [b' ' | b'\t', rest @ ..] => cross_behind(skip(rest)),
+        [b' ' | b'\t', rest @ ..] => cross_behind(after_blanks(rest)),
         _ => None,
     }
 }

@@ -1,12 +1,12 @@
-ghost use Rattle.std.specs.Prelude.{◌≡◌, ◌≤◌, ◌<◌, ◌&&◌, ◌||◌, ℕ, nat_le, length, IsTrue, IfSome};
+ghost use Rattle.std.specs.Prelude.{◌≡◌, ◌≤◌, ◌<◌, length, IsTrue, IfSome};
 ghost use Rattle.std.specs.Option.{option_map};
 ghost use Rattle.vc_context.specs.Reading.{letter_front, item_front, letters_front, letters_until};
-ghost use Rattle.vc_label.specs.Alphabets.{has_letter, letters_of};
+ghost use Rattle.vc_label.specs.Alphabets.{letters_of};
 ghost use Rattle.vc_label.specs.Letters.{is_letter};
 
-use crate::pieces::{after, skip};
+use crate::pieces::after;
 use vc_label::Alphabet;
-use vc_lex::letter_at;
+use vc_text::{after_blanks, letter_at};
 
 // The letter that begins the text, and what stands behind it.
 fn letter(text: &[u8]) -> Option<(u8, &[u8])>
@@ -37,28 +37,14 @@ fn item(text: &[u8]) -> Option<(u8, u8, &[u8])>
     }
 }
 
-// The alphabet with the letters from one to another.
-fn with_range(alphabet: Alphabet, first: u8, last: u8) -> Alphabet
-    requires first { IsTrue (is_letter first) }
-    requires last { IsTrue (is_letter last) }
-    requires ordered { first ≤ last }
-    ensures { (x : ℕ) → has_letter result x ≡ (has_letter alphabet x || (nat_le first x && nat_le x last)) }
-{
-    let mut wider = alphabet;
-    for letter in first..=last {
-        wider = wider.with(letter);
-    }
-    wider
-}
-
 // The alphabet of the items behind blanks, and what stands behind them.
 fn letters_front(text: &[u8]) -> (Alphabet, &[u8])
     ensures { (letters_of result.0, result.1.now) ≡ letters_front text.now }
 {
     let mut alphabet = Alphabet::new();
-    let mut rest = skip(text);
+    let mut rest = after_blanks(text);
     while let Some((first, last, next)) = item(rest) {
-        alphabet = with_range(alphabet, first, last);
+        alphabet = alphabet.with_range(first, last);
         rest = next;
     }
     (alphabet, rest)

@@ -10,10 +10,11 @@ ghost use Rattle.vc_label.specs.declared.tape_set.TapeSet.{TapeSet};
 use crate::context::{AnyContext, AnyLabels, ContextFault, Weights};
 use crate::joined::{Style, Tapes};
 use crate::laws::texts_are_read;
-use crate::pieces::{after, skip};
+use crate::pieces::after;
 use crate::tapes::named;
 use vc_atoms::{Letters, Nullable, Words};
 use vc_label::{TapeKind, TapeSet};
+use vc_text::after_blanks;
 use vc_tuple::Tuple;
 
 // In angle brackets two to four tapes.
@@ -58,7 +59,7 @@ fn is_last(name: &[u8], text: &[u8]) -> bool
     ensures { result ≡ is_last name.now text.now }
 {
     match after(name, text) {
-        Some(rest) => skip(rest).is_empty(),
+        Some(rest) => after_blanks(rest).is_empty(),
         None => false,
     }
 }

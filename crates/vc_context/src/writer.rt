@@ -1,72 +1,32 @@
-ghost use Rattle.std.specs.Prelude.{◌≡◌, ◌++◌, ◌<◌, ◌∷◌, [], OnOk, OnErr, string_bytes};
+ghost use Rattle.std.specs.Prelude.{◌≡◌, ◌++◌, OnOk, OnErr, string_bytes};
 ghost use Rattle.std.specs.List.{flat_map};
-ghost use Rattle.vc_context.specs.Canonical.{letter_text, tape_text, comma_text, labels_text, context_text, kind_name};
-ghost use Rattle.vc_context.specs.Growth.{IsAscii, IsLonger};
+ghost use Rattle.vc_context.specs.Canonical.{tape_text, comma_text, labels_text, context_text, kind_name};
 ghost use Rattle.vc_context.specs.Sets.{tapes_of};
 ghost use Rattle.vc_context.specs.Spelling.{weights_name};
 ghost use Rattle.vc_label.specs.Alphabets.{letters_of};
-ghost use Rattle.vc_lex.specs.Letters.{is_plain};
+ghost use Rattle.vc_text.specs.Growing.{IsFront};
+ghost use Rattle.vc_text.specs.Letters.{letter_text};
 
 use crate::context::{AnyContext, AnyLabels, Weights};
 use std::alloc::AllocError;
-use vc_label::{Alphabet, LabelSet, TapeKind, TapeSet};
-
-// Whether the letter stands in texts by itself.
-#[tactic(auto, unfolding(vc_lex::specs::Letters::is_plain))]
-fn is_plain(letter: u8) -> bool
-    ensures { result ≡ is_plain letter }
-{
-    matches!(letter, b'a'..=b'z' | b'A'..=b'Z' | b'0'..=b'9' | b'_')
-}
-
-// Appends a text of bytes below 128.
-fn push_text(text: &str, into: &mut String) -> Result<(), AllocError>
-    requires { IsAscii text.now }
-    ensures ok { OnOk result (string_bytes into.new ≡ string_bytes into.old ++ text.now) }
-    ensures longer { IsLonger (string_bytes into.old) (string_bytes into.new) }
-{
-    into.push_str(text)
-}
-
-// Appends a byte below 128.
-fn push_byte(byte: u8, into: &mut String) -> Result<(), AllocError>
-    requires { byte < 128 }
-    ensures ok { OnOk result (string_bytes into.new ≡ string_bytes into.old ++ byte ∷ []) }
-    ensures longer { IsLonger (string_bytes into.old) (string_bytes into.new) }
-{
-    into.push(char::from(byte))
-}
-
-// Appends the letter, with a backslash before it where it is not plain.
-#[tactic(auto, using(crate::proofs::Growths::longer_twice))]
-fn push_letter(letter: u8, into: &mut String) -> Result<(), AllocError>
-    requires { letter < 128 }
-    ensures ok { OnOk result (string_bytes into.new ≡ string_bytes into.old ++ letter_text letter) }
-    ensures longer { IsLonger (string_bytes into.old) (string_bytes into.new) }
-{
-    if !is_plain(letter) {
-        push_byte(b'\\', into)?;
-    }
-    push_byte(letter, into)
-}
+use vc_label::{Alphabet, LabelSet, TapeKind, TapeSet, alphabets_are_sets};
+use vc_text::{cut_back, push_byte, push_letter, push_text};
 
 // Appends the letters ascending, those that are not plain with a backslash before them.
 fn push_letters(alphabet: Alphabet, into: &mut String) -> Result<(), AllocError>
     ensures ok { OnOk result (string_bytes into.new ≡ string_bytes into.old ++ flat_map letter_text (letters_of alphabet)) }
-    ensures longer { IsLonger (string_bytes into.old) (string_bytes into.new) }
+    ensures front { IsFront (string_bytes into.old) (string_bytes into.new) }
 {
-    for letter in 0x21..0x7f {
-        if alphabet.has(letter) {
-            push_letter(letter, into)?;
-        }
+    alphabets_are_sets();
+    for letter in alphabet.letters() {
+        push_letter(letter, into)?;
     }
     Ok(())
 }
 
 // The name of the sets of one tape.
 fn kind_name(kind: TapeKind) -> &'static str
-    ensures value { result.now ≡ kind_name kind }
-    ensures ascii { IsAscii result.now }
+    ensures { result.now ≡ kind_name kind }
 {
     match kind {
         TapeKind::Letters => "lal_char",
@@ -76,10 +36,10 @@ fn kind_name(kind: TapeKind) -> &'static str
 }
 
 // Appends a name, and letters in parentheses.
-#[tactic(auto, using(crate::proofs::Growths::longer_twice))]
+#[tactic(auto, using(vc_text::specs::Fronts::front_twice))]
 fn push_tape(set: TapeSet, into: &mut String) -> Result<(), AllocError>
     ensures ok { OnOk result (string_bytes into.new ≡ string_bytes into.old ++ tape_text set) }
-    ensures longer { IsLonger (string_bytes into.old) (string_bytes into.new) }
+    ensures front { IsFront (string_bytes into.old) (string_bytes into.new) }
 {
     push_text(kind_name(set.kind), into)?;
     push_byte(b'(', into)?;
@@ -88,20 +48,20 @@ fn push_tape(set: TapeSet, into: &mut String) -> Result<(), AllocError>
 }
 
 // Appends a comma, a blank and a tape.
-#[tactic(auto, using(crate::proofs::Growths::longer_twice))]
+#[tactic(auto, using(vc_text::specs::Fronts::front_twice))]
 fn push_behind(set: TapeSet, into: &mut String) -> Result<(), AllocError>
     ensures ok { OnOk result (string_bytes into.new ≡ string_bytes into.old ++ comma_text set) }
-    ensures longer { IsLonger (string_bytes into.old) (string_bytes into.new) }
+    ensures front { IsFront (string_bytes into.old) (string_bytes into.new) }
 {
     push_text(", ", into)?;
     push_tape(set, into)
 }
 
 // Appends one tape alone, or several in `lat<` and `>`.
-#[tactic(auto, using(crate::proofs::Growths::longer_twice))]
+#[tactic(auto, using(vc_text::specs::Fronts::front_twice))]
 fn push_labels<L: LabelSet>(labels: &L, into: &mut String) -> Result<(), AllocError>
     ensures ok { OnOk result (string_bytes into.new ≡ string_bytes into.old ++ labels_text (L.sets labels.now)) }
-    ensures longer { IsLonger (string_bytes into.old) (string_bytes into.new) }
+    ensures front { IsFront (string_bytes into.old) (string_bytes into.new) }
 {
     if labels.tapes() == 1 {
         return push_tape(labels.tape(0), into);
@@ -117,7 +77,7 @@ fn push_labels<L: LabelSet>(labels: &L, into: &mut String) -> Result<(), AllocEr
 // Appends the text of a label set.
 fn push_any(labels: &AnyLabels, into: &mut String) -> Result<(), AllocError>
     ensures ok { OnOk result (string_bytes into.new ≡ string_bytes into.old ++ labels_text (tapes_of labels.now)) }
-    ensures longer { IsLonger (string_bytes into.old) (string_bytes into.new) }
+    ensures front { IsFront (string_bytes into.old) (string_bytes into.new) }
 {
     match labels {
         AnyLabels::Letters(labels) => push_labels(labels, into),
@@ -129,8 +89,7 @@ fn push_any(labels: &AnyLabels, into: &mut String) -> Result<(), AllocError>
 
 // The name of the weight set.
 fn weights_name(weights: Weights) -> &'static str
-    ensures value { result.now ≡ weights_name weights }
-    ensures ascii { IsAscii result.now }
+    ensures { result.now ≡ weights_name weights }
 {
     match weights {
         Weights::B => "b",
@@ -142,10 +101,10 @@ fn weights_name(weights: Weights) -> &'static str
 }
 
 // Appends the canonical text; where there is no memory for it, a front of it.
-#[tactic(auto, using(crate::proofs::Growths::longer_twice))]
+#[tactic(auto, using(vc_text::specs::Fronts::front_twice))]
 fn push_context(context: &AnyContext, into: &mut String) -> Result<(), AllocError>
     ensures ok { OnOk result (string_bytes into.new ≡ string_bytes into.old ++ context_text (tapes_of context.now.labels) context.now.weights) }
-    ensures longer { IsLonger (string_bytes into.old) (string_bytes into.new) }
+    ensures front { IsFront (string_bytes into.old) (string_bytes into.new) }
 {
     push_any(&context.labels, into)?;
     push_text(", ", into)?;
@@ -163,7 +122,7 @@ pub fn write_context(context: &AnyContext, into: &mut String) -> Result<(), Allo
     let length = into.len();
     let written = push_context(context, into);
     if written.is_err() {
-        into.truncate(length);
+        cut_back(into, length);
     }
     written
 }

@@ -1,5 +1,5 @@
 -- The bits of an alphabet.
-use Rattle.std.proofs.Common.{◌≡◌, ap, ℕ, zero, suc, ◌+◌, ◌≤◌, ◌*◌, ◌%◌, ◌^◌, ◌<◌, max, Bool, true, false, ◌||◌, ◌⊎◌, inl, inr, refl, sym, subst, ◌∙◌, length, slice_index, ◌↔◌, arith, IsTrue, bit_or}
+use Rattle.std.proofs.Common.{◌≡◌, ap, ℕ, zero, suc, ◌+◌, ◌≤◌, ◌*◌, ◌%◌, ◌^◌, ◌<◌, max, Bool, true, false, ◌||◌, ◌⊎◌, inl, inr, refl, sym, subst, ◌∙◌, length, slice_index, ◌↔◌, arith, IsTrue, bit_or, List, ◌∷◌, ◌++◌}
 use Rattle.std.proofs.Math.Bool.{Bool-set}
 use Rattle.std.proofs.lemmas.Bool.{true≢false}
 use Rattle.std.proofs.lemmas.List.Kept.{IsStrictlyIncreasing-filter}
@@ -12,7 +12,7 @@ use Rattle.std.proofs.lemmas.Grind.{common_steps}
 use Rattle.vc_label.specs.Alphabets.{has_letter, letters_of}
 use Rattle.vc_label.specs.Letters.{is_letter}
 use Rattle.vc_label.specs.declared.alphabet.Alphabet.{Alphabet}
-use Rattle.vc_model.specs.Members.{In-filter, In-filter_from, up_from-In}
+use Rattle.vc_model.specs.Members.{In-middle, In-filter, In-filter_from, up_from-In}
 use Rattle.vc_model.specs.Lists.{In, up_from}
 
 pub is_bit : (m : ℕ) → m < 2 → (m ≡ 0) ⊎ (m ≡ 1)
@@ -115,3 +115,7 @@ ascends s n k l =
 pub listed_in_order : (s : Alphabet) → IsStrictlyIncreasing (letters_of s)
 unfolding letters_of
 listed_in_order s = IsStrictlyIncreasing-filter (has_letter s) (up_from 0x21 94) (ascends 0x21 94)
+
+-- a letter that stands in the list is a letter of the alphabet
+pub listed_each : (s : Alphabet) (front rest : List ℕ) (x : ℕ) → front ++ x ∷ rest ≡ letters_of s → has_letter s x ≡ true
+listed_each s front rest x e = (listed s x).0 (subst (In x) e (In-middle x front rest))

@@ -1,4 +1,4 @@
-ghost use Rattle.std.specs.Prelude.{◌≡◌, ◌↔◌, ℕ, nat_eq, true, false, IsTrue, List, [], ◌∷◌, length, take, drop, None, Some, if◌then◌else◌};
+ghost use Rattle.std.specs.Prelude.{◌≡◌, ◌↔◌, ℕ, nat_eq, true, false, IsTrue, List, [], ◌∷◌, ◌++◌, length, take, drop, None, Some, if◌then◌else◌};
 ghost use Rattle.std.specs.Cmp.Lexicographic.{pointwise};
 ghost use Rattle.std.specs.Cmp.{IsTotalOrder};
 ghost use Rattle.std.specs.declared.cmp.Ordering.TheVariants.{Equal};
@@ -14,12 +14,13 @@ ghost use Rattle.vc_model.specs.Lists.{In};
 
 /// Alphabets are sets of letters: those with the same letters are the same, and the list of
 /// the letters is theirs, ascending.
-#[tactic(auto, using(crate::proofs::Alphabets::letters_only, crate::proofs::Alphabets::same_alphabets, crate::proofs::Alphabets::listed, crate::proofs::Alphabets::listed_in_order))]
+#[tactic(auto, using(crate::proofs::Alphabets::letters_only, crate::proofs::Alphabets::same_alphabets, crate::proofs::Alphabets::listed, crate::proofs::Alphabets::listed_in_order, crate::proofs::Alphabets::listed_each))]
 pub fn alphabets_are_sets()
     ensures letters { (s : Alphabet) (x : ℕ) → has_letter s x ≡ true → IsTrue (is_letter x) }
     ensures same { (s t : Alphabet) → ((x : ℕ) → has_letter s x ≡ has_letter t x) → s ≡ t }
     ensures listed { (s : Alphabet) (x : ℕ) → In x (letters_of s) ↔ (has_letter s x ≡ true) }
     ensures ascending { (s : Alphabet) → IsStrictlyIncreasing (letters_of s) }
+    ensures each { (s : Alphabet) (front rest : List ℕ) (x : ℕ) → front ++ x ∷ rest ≡ letters_of s → has_letter s x ≡ true }
 {}
 
 /// A word over a list of tape sets has a tape for each set, and its bytes are letters. A word

@@ -7,6 +7,6 @@ use Rattle.vc_context.proofs.pieces.after.Goals as goal
 
 pub returns : goal.returns
 returns c =
-    stripped c.args.piece.now c.skip.result.now c.strip_prefix.result
-    (strip_prefix_is Decides-eqb c.skip.result.now c.args.piece.now c.strip_prefix.result c.strip_prefix.ensures.cases)
-    ∙ ap (strip c.args.piece.now) c.skip.ensures
+    stripped c.args.piece.now c.after_blanks.result.now c.strip_prefix.result
+    (strip_prefix_is Decides-eqb c.after_blanks.result.now c.args.piece.now c.strip_prefix.result c.strip_prefix.ensures.cases)
+    ∙ ap (strip c.args.piece.now) c.after_blanks.ensures
