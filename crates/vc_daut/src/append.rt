@@ -1,7 +1,5 @@
-ghost use Rattle.std.specs.Prelude.{◌≡◌, ◌<◌, ◌++◌, ◌∷◌, [], ℕ, IsTrue, All, OnOk, length, string_bytes};
-ghost use Rattle.std.specs.Fmt.{decimal};
+ghost use Rattle.std.specs.Prelude.{◌≡◌, ◌<◌, ◌++◌, ◌∷◌, IsTrue, All, OnOk, length, string_bytes};
 ghost use Rattle.vc_aut.specs.Stored.{transition_of};
-ghost use Rattle.vc_text.specs.Letters.{is_plain, letter_text};
 ghost use Rattle.vc_text.specs.Growing.{IsFront};
 ghost use Rattle.vc_daut.specs.Canonical.{part_text, label_text, weight_text, entry_text, entries_text};
 ghost use Rattle.vc_daut.specs.Growing.{IsEntry, lent};

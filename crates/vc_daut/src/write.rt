@@ -1,10 +1,8 @@
-ghost use Rattle.std.specs.Prelude.{◌≡◌, ◌<◌, ◌++◌, ◌==◌, ℕ, IsTrue, All, Bool, false, OnOk, OnErr, IfOk, length, map, filter, slice_index_or, string_bytes, if◌then◌else◌};
-ghost use Rattle.std.specs.Fmt.{decimal};
-ghost use Rattle.std.specs.List.{flat_map, list_any, prefix_len};
+ghost use Rattle.std.specs.Prelude.{◌≡◌, ◌<◌, ◌++◌, ◌==◌, ℕ, IsTrue, All, false, OnOk, OnErr, IfOk, length, slice_index_or, string_bytes};
+ghost use Rattle.std.specs.List.{flat_map, list_any};
 ghost use Rattle.std.specs.List.Sorted.{IsNonDecreasingBy};
-ghost use Rattle.vc_aut.specs.Stored.{transition_of};
 ghost use Rattle.vc_context.specs.Sets.{tapes_of};
-ghost use Rattle.vc_daut.specs.Canonical.{behind_state, fed, line_text, moves_line, initial_line, final_line, transition_lines, lone_line, is_in_lines, state_lines, automaton_lines, automaton_text, lines_by_target};
+ghost use Rattle.vc_daut.specs.Canonical.{behind_state, fed, line_text, moves_line, initial_line, final_line, transition_lines, lone_line, is_in_lines, state_lines, automaton_text, lines_by_target};
 ghost use Rattle.vc_text.specs.Growing.{IsFront};
 ghost use Rattle.vc_daut.specs.Growing.{IsEntry, lent};
 ghost use Rattle.vc_model.specs.Lists.{below};

@@ -8,7 +8,6 @@ use Rattle.vc_context.specs.declared.context.AnyContext.{AnyContext}
 use Rattle.vc_context.specs.declared.context.Weights.{Weights}
 use Rattle.vc_label.specs.declared.tape_set.TapeSet.{TapeSet}
 use Rattle.vc_text.specs.Letters.{is_escaped}
-use Rattle.vc_text.specs.Blanks.{is_blank}
 use Rattle.vc_lex.specs.Scans.{begins_with}
 use Rattle.vc_lines.specs.declared.fault.HeadFault.{HeadFault}
 use Rattle.vc_lines.specs.declared.fault.HeadFault.TheVariants.{Syntax}

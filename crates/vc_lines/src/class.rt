@@ -1,4 +1,4 @@
-ghost use Rattle.std.specs.Prelude.{◌≡◌, ◌<◌, ◌≤◌, ◌&&◌, ◌||◌, ◌==◌, ◌∷◌, [], ℕ, length, nat_le, MatchOption, List};
+ghost use Rattle.std.specs.Prelude.{◌≡◌, ◌<◌, ◌&&◌, ◌||◌, ◌==◌, ◌∷◌, [], ℕ, length, MatchOption, List};
 ghost use Rattle.vc_label.specs.Alphabets.{has_letter};
 ghost use Rattle.vc_label.specs.Letters.{is_letter};
 ghost use Rattle.vc_lines.specs.Labels.{letter, symbols, items_of, has_singles, names_letter, class_items, is_negated, has_in_class, begins_no_letter, body_items};

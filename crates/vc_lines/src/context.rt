@@ -1,7 +1,5 @@
 ghost use Rattle.std.specs.Prelude.{◌≡◌, ◌<◌, ◌≤◌, length};
 ghost use Rattle.std.specs.Option.{option_copied};
-ghost use Rattle.vc_text.specs.Blanks.{after_blanks};
-ghost use Rattle.vc_text.specs.Letters.{is_escaped};
 ghost use Rattle.vc_lines.specs.Contexts.{IsContextOf, before, behind_one, begins_comment, begins_quote, behind, context_text, quoted, value_text};
 ghost use Rattle.vc_lines.specs.Heads.{head_line};
 ghost use Rattle.vc_lines.specs.Lines.{lines_of};

@@ -1,7 +1,7 @@
 ghost use Rattle.std.specs.Prelude.{◌≡◌, ◌≤◌, ◌∷◌, not, map, length, IfSome};
 ghost use Rattle.std.specs.List.{list_all, prefix_len};
 ghost use Rattle.std.specs.Option.{option_map};
-ghost use Rattle.vc_lines.specs.Grammar.{is_state, is_part_kind, is_bar_kind, is_comma_kind, is_arrow_kind, is_dollar_kind, is_weight_kind, is_class_kind, inside, name_of, are_parts, is_class, is_label, is_comma, entries_of, entry_weight, entry_label, is_weight, is_end, is_entry, are_entries, arrow_line, line_of};
+ghost use Rattle.vc_lines.specs.Grammar.{is_state, is_part_kind, is_bar_kind, is_comma_kind, is_arrow_kind, is_dollar_kind, is_weight_kind, inside, name_of, are_parts, is_class, is_comma, entries_of, entry_weight, entry_label, is_weight, is_end, is_entry, are_entries, arrow_line, line_of};
 ghost use Rattle.vc_lines.specs.Labels.{class_body};
 ghost use Rattle.vc_lines.specs.Views.{seen, line_seen, more_entries, tokens_left, AreFit, AreFitBehind, IsFitLine};
 ghost use Rattle.vc_text.specs.Letters.{is_plain};

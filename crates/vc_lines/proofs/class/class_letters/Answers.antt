@@ -1,8 +1,8 @@
-use Rattle.std.proofs.Common.{◌≡◌, ◌&&◌, not, true, false, ◌∙◌, ap, sym}
+use Rattle.std.proofs.Common.{◌&&◌, not, ◌∙◌, ap, sym}
 use Rattle.std.specs.Prelude.{if◌then◌else◌}
 use Rattle.vc_label.specs.Alphabets.{has_letter}
 use Rattle.vc_label.specs.Letters.{is_letter}
-use Rattle.vc_lines.specs.Labels.{names_letter, items_of, symbols, class_items, is_negated}
+use Rattle.vc_lines.specs.Labels.{names_letter, items_of, symbols, class_items}
 use Rattle.vc_lines.proofs.ClassItems.{common, outside}
 use Rattle.vc_lines.proofs.class.class_letters.Goals as goal
 
