@@ -5,7 +5,8 @@ use Rattle.std.specs.Option.{option_map, option_map_or}
 use Rattle.std.specs.List.{list_all, flat_map}
 use Rattle.std.proofs.Math.Seq.{take-append_seam, drop-append-add}
 use Rattle.std.proofs.lemmas.Bool.{and_parts, lt-ltb}
-use Rattle.vc_context.specs.Canonical.{letter_text, kind_name, tape_text, comma_text, labels_text, context_text}
+use Rattle.vc_text.specs.Letters.{is_escaped, is_plain, letter_text}
+use Rattle.vc_context.specs.Canonical.{kind_name, tape_text, comma_text, labels_text, context_text}
 use Rattle.vc_context.specs.Spelling.{weights_name}
 use Rattle.vc_context.specs.declared.context.Weights.{Weights}
 use Rattle.vc_context.specs.declared.context.Weights.TheVariants.{B, F2, Z, Q, Nmin}
@@ -16,7 +17,6 @@ use Rattle.vc_label.specs.declared.tape_set.TapeKind.{TapeKind}
 use Rattle.vc_label.specs.declared.tape_set.TapeKind.TheVariants.{Letters, Nullable, Words}
 use Rattle.vc_label.specs.declared.tape_set.TapeSet.{TapeSet}
 use Rattle.vc_lex.specs.declared.letters.LetterAt.{LetterAt}
-use Rattle.vc_lex.specs.Letters.{is_plain, is_escaped}
 use Rattle.vc_lex.specs.Fronts.{front}
 use Rattle.vc_lex.specs.Scans.{letter_width, line_token}
 use Rattle.vc_lex.specs.declared.scan.Scan.TheVariants.{Found}

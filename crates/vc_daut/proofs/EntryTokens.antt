@@ -6,8 +6,8 @@ use Rattle.std.specs.List.{list_all, flat_map}
 use Rattle.vc_label.specs.Letters.{is_of_letters}
 use Rattle.vc_label.specs.Sets.{IsOverSets}
 use Rattle.vc_label.specs.declared.tape_set.TapeSet.{TapeSet}
-use Rattle.vc_lex.specs.Letters.{is_plain}
-use Rattle.vc_lex.specs.Scans.{is_blank}
+use Rattle.vc_text.specs.Letters.{is_plain}
+use Rattle.vc_text.specs.Blanks.{is_blank}
 use Rattle.vc_lex.specs.declared.token.TokenKind.TheVariants.{Weight, Comma}
 use Rattle.vc_model.specs.Automata.{Transition}
 use Rattle.vc_model.specs.Lists.{IsEqualityTest}

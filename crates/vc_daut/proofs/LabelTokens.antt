@@ -7,8 +7,8 @@ use Rattle.vc_label.specs.Letters.{are_letters, is_of_letters}
 use Rattle.vc_label.specs.Sets.{IsOverSets}
 use Rattle.vc_label.specs.declared.tape_set.TapeSet.{TapeSet}
 use Rattle.vc_lex.specs.Grammar.{IsTokenText, EndsBefore}
-use Rattle.vc_lex.specs.Letters.{is_plain}
-use Rattle.vc_lex.specs.Scans.{is_blank}
+use Rattle.vc_text.specs.Letters.{is_plain}
+use Rattle.vc_text.specs.Blanks.{is_blank}
 use Rattle.vc_lex.specs.declared.token.Mode.TheVariants.{Line}
 use Rattle.vc_lex.specs.declared.token.TokenKind.{TokenKind}
 use Rattle.vc_lex.specs.declared.token.TokenKind.TheVariants.{One, Run, Bar}

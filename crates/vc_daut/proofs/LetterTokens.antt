@@ -4,11 +4,10 @@ use Rattle.std.specs.Prelude.{nat_le, if◌then◌else◌}
 use Rattle.std.specs.List.{list_all, flat_map}
 use Rattle.std.specs.Fmt.{decimal, digits, digits_onto, digit_glyph}
 use Rattle.std.proofs.lemmas.Bool.{and_parts, eqb-true, le-leb, lt-ltb}
-use Rattle.vc_context.specs.Canonical.{letter_text}
+use Rattle.vc_text.specs.Letters.{SpellsLetter, is_escaped, is_plain, letter_text}
+use Rattle.vc_text.specs.Blanks.{is_blank}
 use Rattle.vc_label.specs.Letters.{is_letter, are_letters}
-use Rattle.vc_lex.specs.Grammar.{SpellsLetter, IsLetter, Several, Each, joined}
-use Rattle.vc_lex.specs.Letters.{is_plain, is_escaped}
-use Rattle.vc_lex.specs.Scans.{is_blank}
+use Rattle.vc_lex.specs.Grammar.{IsLetter, Several, Each, joined}
 use Rattle.vc_model.specs.Words.{Tape}
 use Rattle.vc_lines.specs.Labels.{unescaped}
 use Rattle.vc_daut.proofs.TokenTexts.{IsInk, ink_at}

@@ -1,4 +1,3 @@
-pub mod TextFronts
 pub mod GrowingTexts
 pub mod ListTexts
 pub mod TargetGroups

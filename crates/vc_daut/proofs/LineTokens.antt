@@ -7,7 +7,7 @@ use Rattle.std.specs.List.{list_all}
 use Rattle.vc_label.specs.Letters.{is_of_letters}
 use Rattle.vc_label.specs.Sets.{IsOverSets}
 use Rattle.vc_label.specs.declared.tape_set.TapeSet.{TapeSet}
-use Rattle.vc_lex.specs.Scans.{is_blank}
+use Rattle.vc_text.specs.Blanks.{is_blank}
 use Rattle.vc_lex.specs.declared.token.TokenKind.TheVariants.{Run, Weight, Arrow, Dollar}
 use Rattle.vc_model.specs.Automata.{Transition}
 use Rattle.vc_model.specs.Lists.{IsEqualityTest}

@@ -5,7 +5,7 @@ use Rattle.std.specs.List.{flat_map}
 use Rattle.std.proofs.lemmas.Bool.Decides.{nat_tests}
 use Rattle.std.proofs.lemmas.Grind.{flat_map-append}
 use Rattle.std.proofs.lemmas.List.{take_more, map-append}
-use Rattle.vc_context.specs.Canonical.{letter_text}
+use Rattle.vc_text.specs.Letters.{letter_text}
 use Rattle.vc_label.specs.Letters.{is_letter, are_letters}
 use Rattle.vc_model.specs.Lists.{up_from, below}
 use Rattle.vc_model.specs.Words.{Tape}

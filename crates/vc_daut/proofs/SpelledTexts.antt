@@ -1,5 +1,5 @@
 -- The canonical text of an automaton spells it.
-use Rattle.std.proofs.Common.{◌≡◌, ℕ, ◌≤◌, ◌↔◌, Bool, true, List, length, Option, Some}
+use Rattle.std.proofs.Common.{◌≡◌, ℕ, ◌≤◌, ◌↔◌, true, List, length, Some}
 use Rattle.std.specs.Prelude.{IsTrue}
 use Rattle.vc_aut.specs.Labelled.{Labelled}
 use Rattle.vc_aut.specs.Validity.{IsLabelled}

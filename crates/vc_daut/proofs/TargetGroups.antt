@@ -20,8 +20,9 @@ use Rattle.vc_aut.specs.Validity.{IsMove}
 use Rattle.vc_label.specs.Sets.{IsOverSets}
 use Rattle.vc_label.specs.declared.tape_set.TapeSet.{TapeSet}
 use Rattle.vc_model.specs.WeightSet.{WeightSet}
-use Rattle.vc_daut.specs.Growing.{lent, IsFront, IsEntry}
-use Rattle.vc_daut.proofs.TextFronts.{front_twice, front_of}
+use Rattle.vc_text.specs.Growing.{IsFront}
+use Rattle.vc_text.specs.Fronts.{front_of, front_twice}
+use Rattle.vc_daut.specs.Growing.{lent, IsEntry}
 use Rattle.vc_daut.proofs.ListTexts.{take_whole}
 
 -- a word over sets has as many parts

@@ -5,8 +5,8 @@ use Rattle.std.specs.List.{prefix_len, list_all}
 use Rattle.std.proofs.Math.Seq.{take-append_seam, drop-append_seam}
 use Rattle.std.proofs.lemmas.Grind.{common_steps}
 use Rattle.vc_lex.specs.Grammar.{IsTokenText, EndsBefore, BeginsToken}
-use Rattle.vc_lex.specs.Letters.{is_plain}
-use Rattle.vc_lex.specs.Scans.{is_blank}
+use Rattle.vc_text.specs.Letters.{is_plain}
+use Rattle.vc_text.specs.Blanks.{is_blank}
 use Rattle.vc_lex.specs.declared.token.Mode.TheVariants.{Line}
 use Rattle.vc_lex.specs.declared.token.TokenKind.{TokenKind}
 use Rattle.vc_lex.specs.declared.token.TokenKind.TheVariants.{Run}

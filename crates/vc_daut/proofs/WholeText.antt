@@ -1,5 +1,5 @@
 -- The canonical text of an automaton is read: its head, its context and its lines.
-use Rattle.std.proofs.Common.{◌≡◌, ℕ, ◌+◌, ◌≤◌, ◌↔◌, Bool, true, List, ◌++◌, length, map, codes, All, Option, Some, ap, ◌∙◌}
+use Rattle.std.proofs.Common.{◌≡◌, ℕ, ◌+◌, ◌≤◌, ◌↔◌, true, List, ◌++◌, length, map, codes, All, Some, ap, ◌∙◌}
 use Rattle.std.specs.Prelude.{IsTrue, if◌then◌else◌}
 use Rattle.vc_context.specs.Canonical.{context_text}
 use Rattle.vc_context.specs.Spelling.{SpellsContext}

@@ -2,7 +2,8 @@
 use Rattle.std.specs.Prelude.{ℕ, Bool, not, ◌||◌, List, [], ◌∷◌, ◌++◌, map, filter, if◌then◌else◌, ◌==◌, codes}
 use Rattle.std.specs.Fmt.{decimal}
 use Rattle.std.specs.List.{flat_map, list_any}
-use Rattle.vc_context.specs.Canonical.{letter_text, context_text}
+use Rattle.vc_text.specs.Letters.{letter_text}
+use Rattle.vc_context.specs.Canonical.{context_text}
 use Rattle.vc_context.specs.declared.context.Weights.{Weights}
 use Rattle.vc_label.specs.declared.tape_set.TapeSet.{TapeSet}
 use Rattle.vc_model.specs.Automata.{Automaton, Transition, initial_weight, final_weight}

@@ -1,16 +1,11 @@
--- Texts that grow.
-use Rattle.std.specs.Prelude.{◌≡◌, ℕ, IsTrue, List, length, map, ◌++◌}
+-- Transitions that are written.
+use Rattle.std.specs.Prelude.{◌≡◌, ℕ, IsTrue, List, length, map}
 use Rattle.std.specs.Borrow.{Bor}
 use Rattle.vc_aut.specs.Stored.{transition_of}
 use Rattle.vc_aut.specs.declared.transition.Transition.{Transition as Stored}
 use Rattle.vc_model.specs.Automata.{Transition}
 use Rattle.vc_model.specs.WeightSet.{WeightSet}
 use Rattle.vc_model.specs.Words.{Word}
-
--- the new text is the old one with more after it
-pub record IsFront (old new : List ℕ) : Type 0 where
-  pub more : List ℕ
-  pub text : new ≡ old ++ more
 
 -- a transition with a weight that has a text and a label of so many tapes
 pub record IsEntry {V : Type 0} (R : WeightSet V) (tapes : ℕ) (t : Transition V) : Type 0 where

@@ -1,64 +1,15 @@
-ghost use Rattle.std.specs.Prelude.{◌≡◌, ◌<◌, ◌++◌, ◌∷◌, [], ℕ, IsTrue, All, OnOk, length, string_bytes};
-ghost use Rattle.std.specs.Fmt.{decimal};
+ghost use Rattle.std.specs.Prelude.{◌≡◌, ◌<◌, ◌++◌, ◌∷◌, IsTrue, All, OnOk, length, string_bytes};
 ghost use Rattle.vc_aut.specs.Stored.{transition_of};
-ghost use Rattle.vc_context.specs.Canonical.{letter_text};
+ghost use Rattle.vc_text.specs.Growing.{IsFront};
 ghost use Rattle.vc_daut.specs.Canonical.{part_text, label_text, weight_text, entry_text, entries_text};
-ghost use Rattle.vc_daut.specs.Growing.{IsFront, IsEntry, lent};
+ghost use Rattle.vc_daut.specs.Growing.{IsEntry, lent};
 ghost use Rattle.vc_label.specs.Letters.{are_letters};
-ghost use Rattle.vc_lex.specs.Letters.{is_plain};
 
-use itoa::Buffer;
 use std::alloc::AllocError;
 use vc_aut::Transition;
 use vc_label::LabelSet;
 use vc_ring::Semiring;
-
-/// Appends a text.
-pub(crate) fn push_text(text: &str, into: &mut String) -> Result<(), AllocError>
-    ensures ok { OnOk result (string_bytes into.new ≡ string_bytes into.old ++ text.now) }
-    ensures front { IsFront (string_bytes into.old) (string_bytes into.new) }
-{
-    into.push_str(text)
-}
-
-/// Appends the digits of a number.
-pub(crate) fn push_number(number: u32, into: &mut String) -> Result<(), AllocError>
-    ensures ok { OnOk result (string_bytes into.new ≡ string_bytes into.old ++ decimal number) }
-    ensures front { IsFront (string_bytes into.old) (string_bytes into.new) }
-{
-    let mut digits = Buffer::new();
-    push_text(digits.format(number), into)
-}
-
-/// Whether the letter stands in texts by itself.
-#[tactic(auto, unfolding(vc_lex::specs::Letters::is_plain))]
-fn is_plain(letter: u8) -> bool
-    ensures { result ≡ is_plain letter }
-{
-    matches!(letter, b'a'..=b'z' | b'A'..=b'Z' | b'0'..=b'9' | b'_')
-}
-
-/// Appends a byte below 128.
-fn push_byte(byte: u8, into: &mut String) -> Result<(), AllocError>
-    requires { byte < 128 }
-    ensures ok { OnOk result (string_bytes into.new ≡ string_bytes into.old ++ byte ∷ []) }
-    ensures front { IsFront (string_bytes into.old) (string_bytes into.new) }
-{
-    into.push(char::from(byte))
-}
-
-/// Appends a letter, with a backslash before it where it is not plain.
-#[tactic(auto, using(crate::proofs::TextFronts::front_twice))]
-fn push_letter(letter: u8, into: &mut String) -> Result<(), AllocError>
-    requires { letter < 128 }
-    ensures ok { OnOk result (string_bytes into.new ≡ string_bytes into.old ++ letter_text letter) }
-    ensures front { IsFront (string_bytes into.old) (string_bytes into.new) }
-{
-    if !is_plain(letter) {
-        push_byte(b'\\', into)?;
-    }
-    push_byte(letter, into)
-}
+use vc_text::{push_letter, push_text};
 
 /// Appends a part of a label.
 fn push_part(part: &[u8], into: &mut String) -> Result<(), AllocError>
@@ -76,7 +27,7 @@ fn push_part(part: &[u8], into: &mut String) -> Result<(), AllocError>
 }
 
 /// Appends a bar and a part of a label.
-#[tactic(auto, using(crate::proofs::TextFronts::front_twice))]
+#[tactic(auto, using(vc_text::specs::Fronts::front_twice))]
 fn push_next_part(part: &[u8], into: &mut String) -> Result<(), AllocError>
     requires { IsTrue (are_letters part.now) }
     ensures ok { OnOk result (string_bytes into.new ≡ string_bytes into.old ++ (124 ∷ part_text part.now)) }
@@ -104,7 +55,7 @@ fn push_label<L: LabelSet>(
 }
 
 /// Appends a weight in `<` and `>`.
-#[tactic(auto, using(crate::proofs::TextFronts::front_twice))]
+#[tactic(auto, using(vc_text::specs::Fronts::front_twice))]
 pub(crate) fn push_weight<S: Semiring>(
     weight: S::Value,
     into: &mut String,
@@ -119,7 +70,7 @@ pub(crate) fn push_weight<S: Semiring>(
 }
 
 /// Appends the weight of an entry and its label.
-#[tactic(auto, using(crate::proofs::TextFronts::front_twice))]
+#[tactic(auto, using(vc_text::specs::Fronts::front_twice))]
 fn push_entry<L: LabelSet, S: Semiring>(
     tapes: usize,
     entry: &Transition<L, S>,
@@ -137,7 +88,7 @@ fn push_entry<L: LabelSet, S: Semiring>(
 }
 
 /// Appends a comma, a blank and an entry.
-#[tactic(auto, using(crate::proofs::TextFronts::front_twice))]
+#[tactic(auto, using(vc_text::specs::Fronts::front_twice))]
 fn push_next_entry<L: LabelSet, S: Semiring>(
     tapes: usize,
     entry: &Transition<L, S>,

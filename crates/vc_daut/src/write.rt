@@ -1,23 +1,23 @@
-ghost use Rattle.std.specs.Prelude.{◌≡◌, ◌<◌, ◌++◌, ◌==◌, ℕ, IsTrue, All, Bool, false, OnOk, OnErr, IfOk, length, map, filter, slice_index_or, string_bytes, if◌then◌else◌};
-ghost use Rattle.std.specs.Fmt.{decimal};
-ghost use Rattle.std.specs.List.{flat_map, list_any, prefix_len};
+ghost use Rattle.std.specs.Prelude.{◌≡◌, ◌<◌, ◌++◌, ◌==◌, ℕ, IsTrue, All, false, OnOk, OnErr, IfOk, length, slice_index_or, string_bytes};
+ghost use Rattle.std.specs.List.{flat_map, list_any};
 ghost use Rattle.std.specs.List.Sorted.{IsNonDecreasingBy};
-ghost use Rattle.vc_aut.specs.Stored.{transition_of};
 ghost use Rattle.vc_context.specs.Sets.{tapes_of};
-ghost use Rattle.vc_daut.specs.Canonical.{behind_state, fed, line_text, moves_line, initial_line, final_line, transition_lines, lone_line, is_in_lines, state_lines, automaton_lines, automaton_text, lines_by_target};
-ghost use Rattle.vc_daut.specs.Growing.{IsFront, IsEntry, lent};
+ghost use Rattle.vc_daut.specs.Canonical.{behind_state, fed, line_text, moves_line, initial_line, final_line, transition_lines, lone_line, is_in_lines, state_lines, automaton_text, lines_by_target};
+ghost use Rattle.vc_text.specs.Growing.{IsFront};
+ghost use Rattle.vc_daut.specs.Growing.{IsEntry, lent};
 ghost use Rattle.vc_model.specs.Lists.{below};
 
-use crate::append::{push_entries, push_number, push_text, push_weight};
+use crate::append::{push_entries, push_weight};
 use crate::targets::{by_target, front_to, mark_targets};
 use std::alloc::{AllocError, Global};
 use vc_aut::{Automaton, Transition, automata_are_valid};
 use vc_context::{AnyContext, write_context};
 use vc_label::LabelSet;
 use vc_ring::{Semiring, Weighed};
+use vc_text::{cut_back, push_number, push_text};
 
 /// Appends the weight of a state, with a blank before it; one is not written.
-#[tactic(auto, using(crate::proofs::TextFronts::front_twice))]
+#[tactic(auto, using(vc_text::specs::Fronts::front_twice))]
 fn push_behind<S: Semiring>(weight: S::Value, into: &mut String) -> Result<(), AllocError>
     requires { IsTrue (S.set.in_range weight) }
     ensures ok { OnOk result (string_bytes into.new ≡ string_bytes into.old ++ behind_state S.set S.Value.eq S.canonical weight) }
@@ -31,7 +31,7 @@ fn push_behind<S: Semiring>(weight: S::Value, into: &mut String) -> Result<(), A
 }
 
 /// Ends the line of a state with its weight.
-#[tactic(auto, using(crate::proofs::TextFronts::front_twice))]
+#[tactic(auto, using(vc_text::specs::Fronts::front_twice))]
 fn push_end<S: Semiring>(weight: S::Value, into: &mut String) -> Result<(), AllocError>
     requires { IsTrue (S.set.in_range weight) }
     ensures ok { OnOk result (string_bytes into.new ≡ string_bytes into.old ++ fed (behind_state S.set S.Value.eq S.canonical weight)) }
@@ -42,7 +42,7 @@ fn push_end<S: Semiring>(weight: S::Value, into: &mut String) -> Result<(), Allo
 }
 
 /// Appends the initial line of a state.
-#[tactic(auto, using(crate::proofs::TextFronts::front_twice))]
+#[tactic(auto, using(vc_text::specs::Fronts::front_twice))]
 fn push_initial<L: LabelSet, S: Semiring>(
     aut: &Automaton<L, S>,
     state: u32,
@@ -62,7 +62,7 @@ fn push_initial<L: LabelSet, S: Semiring>(
 }
 
 /// Appends the final line of a state.
-#[tactic(auto, using(crate::proofs::TextFronts::front_twice))]
+#[tactic(auto, using(vc_text::specs::Fronts::front_twice))]
 fn push_final<L: LabelSet, S: Semiring>(
     aut: &Automaton<L, S>,
     state: u32,
@@ -82,7 +82,7 @@ fn push_final<L: LabelSet, S: Semiring>(
 }
 
 /// Appends a line of transitions from a state to another.
-#[tactic(auto, using(crate::proofs::TextFronts::front_twice))]
+#[tactic(auto, using(vc_text::specs::Fronts::front_twice))]
 fn push_moves<L: LabelSet, S: Semiring>(
     tapes: usize,
     from: u32,
@@ -129,7 +129,7 @@ fn push_by_target<L: LabelSet, S: Semiring>(
 }
 
 /// Appends the lines at the place of a state.
-#[tactic(auto, using(crate::proofs::TextFronts::front_twice))]
+#[tactic(auto, using(vc_text::specs::Fronts::front_twice))]
 fn push_state<'a, L: LabelSet, S: Semiring>(
     aut: &'a Automaton<L, S>,
     state: u32,
@@ -183,7 +183,7 @@ fn is_in_lines<L: LabelSet, S: Semiring>(aut: &Automaton<L, S>, state: u32, is_t
 }
 
 /// Appends the line of a state that is in no other line.
-#[tactic(auto, using(crate::proofs::TextFronts::front_twice))]
+#[tactic(auto, using(vc_text::specs::Fronts::front_twice))]
 fn push_alone<L: LabelSet, S: Semiring>(
     aut: &Automaton<L, S>,
     state: u32,
@@ -260,7 +260,7 @@ fn push_states<L: LabelSet, S: Semiring>(
 }
 
 /// Appends the canonical text; where there is no memory for it, a front of it.
-#[tactic(auto, using(crate::proofs::TextFronts::front_twice))]
+#[tactic(auto, using(vc_text::specs::Fronts::front_twice))]
 fn push_automaton<L: LabelSet, S: Semiring>(
     alloc: Global,
     context: &AnyContext,
@@ -295,7 +295,7 @@ pub fn write_daut<L: LabelSet, S: Semiring>(
     let length = into.len();
     let written = push_automaton(alloc, context, aut, into);
     if written.is_err() {
-        into.truncate(length);
+        cut_back(into, length);
     }
     written
 }

@@ -1,7 +1,7 @@
 -- How many bytes stand before a place, one letter or byte after the other.
 use Rattle.std.proofs.Common.{◌≡◌, ◌<◌, ◌+◌, ◌==◌, ℕ, List, [], ◌∷◌, length, Bool, true, false, refl, ap, ◌∙◌, arith}
 use Rattle.std.specs.Prelude.{◌&&◌, if◌then◌else◌}
-use Rattle.vc_lex.specs.Letters.{is_escaped}
+use Rattle.vc_text.specs.Letters.{is_escaped}
 use Rattle.vc_lines.specs.Contexts.{before, behind_one}
 
 -- where nothing stops, one letter or byte more stands before

@@ -1,9 +1,8 @@
 -- Items of classes.
-use Rattle.std.proofs.Common.{◌≡◌, ◌≤◌, ◌<◌, ◌+◌, ℕ, Bool, true, false, ◌&&◌, ◌||◌, List, [], ◌∷◌, refl, ap, sym, ◌∙◌, arith, ◌⊎◌, inl, inr}
-use Rattle.std.specs.Prelude.{IsTrue, ◌==◌, nat_le, nat_lt, if◌then◌else◌}
+use Rattle.std.proofs.Common.{◌≡◌, ℕ, Bool, true, false, ◌&&◌, List, [], ◌∷◌, refl, ap, sym, ◌∙◌, arith, inl, inr}
+use Rattle.std.specs.Prelude.{◌==◌, nat_le, not, if◌then◌else◌}
 use Rattle.std.proofs.lemmas.Bool.{eqb-true}
 use Rattle.std.proofs.lemmas.Bool.Decides.{nat_tests}
-use Rattle.vc_label.specs.Letters.{is_letter}
 use Rattle.vc_lines.specs.Labels.{Symbol, letter, dash, symbols, single, range, items_of, begins_no_letter}
 
 -- a range
@@ -44,34 +43,15 @@ dash_item text rest (y ∷ s) x e f (inl n) =
 dash_item text rest (y ∷ s) x e f (inr (r, n)) =
     ap items_of (e ∙ ap (λ r. letter x ∷ symbols r) f ∙ ap (λ q. letter x ∷ dash ∷ q) n) ∙ sym (ap (λ r. single x ∷ items_of (symbols r)) f)
 
--- a range of letters that grows by one
-pub range_more : (n a : Bool) (first x k : ℕ) → first ≤ k → ((n || (a && (nat_le first x && nat_lt x k))) || (a && x == k)) ≡ (n || (a && (nat_le first x && nat_lt x (k + 1))))
-range_more true a first x k h = refl
-range_more false false first x k h = refl
-range_more false true first x k h = grind (arith, nat_tests)
+-- a range of one letter
+pub one_in_range : (x y : ℕ) → (nat_le y x && nat_le x y) ≡ (x == y)
+one_in_range x y = grind (arith, nat_tests)
 
--- a range that has not begun
-pub range_none : (n a : Bool) (first x : ℕ) → n ≡ (n || (a && (nat_le first x && nat_lt x first)))
-range_none true a first x = refl
-range_none false false first x = refl
-range_none false true first x = grind (arith, nat_tests)
+-- letters of an alphabet that are named, and those that are not
+pub common : (a l n : Bool) → (a ≡ true → l ≡ true) → (a && (l && n)) ≡ (a && n)
+common false l n h = refl
+common true l n h = ap (λ b. b && n) (h refl)
 
--- a range up to a place from which on no letter is in the alphabet
-pub range_whole : (n a : Bool) (first last x k end : ℕ) → (a ≡ true → x < 127) → end ≤ k → (k ≡ first) ⊎ (k ≤ end) → (end ≡ last + 1) ⊎ ((127 ≤ last) × (end ≡ 127))
-    → (n || (a && (nat_le first x && nat_lt x k))) ≡ (n || (a && (nat_le first x && nat_le x last)))
-range_whole true a first last x k end h e f d = refl
-range_whole false false first last x k end h e f d = refl
-range_whole false true first last x k end h e f d = at (h refl) f d
-  where
-    at : x < 127 → (k ≡ first) ⊎ (k ≤ end) → (end ≡ last + 1) ⊎ ((127 ≤ last) × (end ≡ 127)) → (nat_le first x && nat_lt x k) ≡ (nat_le first x && nat_le x last)
-    at l (inl f) (inl d) = grind (arith, nat_tests)
-    at l (inl f) (inr (d, q)) = grind (arith, nat_tests)
-    at l (inr f) (inl d) = grind (arith, nat_tests)
-    at l (inr f) (inr (d, q)) = grind (arith, nat_tests)
-
-letter_below : (x : ℕ) → is_letter x ≡ true → x < 127
-letter_below x e = grind (arith, nat_tests)
-
--- letters are below 127
-pub letter_bound : (x : ℕ) → IsTrue (is_letter x) → x < 127
-letter_bound x h = letter_below x h
+pub outside : (a l n : Bool) → (a ≡ true → l ≡ true) → (a && not (l && n)) ≡ (a && not n)
+outside false l n h = refl
+outside true l n h = ap (λ b. not (b && n)) (h refl)

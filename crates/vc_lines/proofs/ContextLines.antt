@@ -9,12 +9,13 @@ use Rattle.std.proofs.Math.Seq.{take-append_seam, drop-append-add}
 use Rattle.std.proofs.lemmas.Bool.{and_parts, or_cases, eqb-true, false_from_ne_true, lt-ltb, ltb-true}
 use Rattle.std.proofs.lemmas.List.{append-nil, length-append, take-append-drop}
 use Rattle.std.proofs.lemmas.Slice.Eq.{bytes_eq-Decides}
-use Rattle.vc_lex.specs.Scans.{Follows, begins_with, is_blank, token_at}
+use Rattle.vc_text.specs.Blanks.{AreBlanks, after_blanks, is_blank}
+use Rattle.vc_lex.specs.Scans.{Follows, begins_with, token_at}
 use Rattle.vc_lex.specs.declared.scan.Scan.{Scan}
 use Rattle.vc_lex.specs.declared.scan.Scan.TheVariants.{End, Bad, Found}
 use Rattle.vc_lex.specs.declared.token.Mode.TheVariants.{Line}
-use Rattle.vc_lines.specs.ContextLines.{AreBlanks, BeginsBlank, BeginsQuote, BeginsComment, IsEnd, IsRest, IsQuoted, IsAlone, IsContextLine, Passes}
-use Rattle.vc_lines.specs.Contexts.{before, begins_comment, begins_quote, behind, behind_blanks, context_text, quoted, value_text}
+use Rattle.vc_lines.specs.ContextLines.{BeginsBlank, BeginsQuote, BeginsComment, IsEnd, IsRest, IsQuoted, IsAlone, IsContextLine, Passes}
+use Rattle.vc_lines.specs.Contexts.{before, begins_comment, begins_quote, behind, context_text, quoted, value_text}
 use Rattle.vc_lines.specs.Heads.{is_blank_line, is_end}
 use Rattle.vc_lines.proofs.Stops.{before_passed, cut_at}
 
@@ -27,8 +28,8 @@ some_same x y h = cc h
 record IsUnblanked (s : List ℕ) : Type 0 where
   pub blanks : List ℕ
   pub are_blanks : AreBlanks blanks
-  pub whole : s ≡ blanks ++ behind_blanks s
-  pub no_blank : BeginsBlank (behind_blanks s) → ⊥
+  pub whole : s ≡ blanks ++ after_blanks s
+  pub no_blank : BeginsBlank (after_blanks s) → ⊥
 
 begun_blank : (x : ℕ) (s : List ℕ) → is_blank x ≡ false → BeginsBlank (x ∷ s) → ⊥
 begun_blank x s e (y, rest, is, f) = let g : x ≡ y = cc in cc (sym is ∙ ap is_blank (sym g) ∙ e)
@@ -50,34 +51,34 @@ unblanked (x ∷ s) =
     are true e u = ap₂ (λ a c. a && c) e u.are_blanks
     are false e u = refl
 
-    whole : (b : Bool) (u : IsUnblanked s) → x ∷ s ≡ front b u ++ (if b then behind_blanks s else x ∷ s)
+    whole : (b : Bool) (u : IsUnblanked s) → x ∷ s ≡ front b u ++ (if b then after_blanks s else x ∷ s)
     whole true u = ap (λ t. x ∷ t) u.whole
     whole false u = refl
 
-    unblank : (b : Bool) → is_blank x ≡ b → IsUnblanked s → BeginsBlank (if b then behind_blanks s else x ∷ s) → ⊥
+    unblank : (b : Bool) → is_blank x ≡ b → IsUnblanked s → BeginsBlank (if b then after_blanks s else x ∷ s) → ⊥
     unblank true e u = u.no_blank
     unblank false e u = begun_blank x s e
 
 -- blanks are passed
-blanks_passed : (blanks s : List ℕ) → AreBlanks blanks → behind_blanks (blanks ++ s) ≡ behind_blanks s
+blanks_passed : (blanks s : List ℕ) → AreBlanks blanks → after_blanks (blanks ++ s) ≡ after_blanks s
 blanks_passed [] s h = refl
 blanks_passed (x ∷ blanks) s h =
     let p = and_parts (is_blank x) (list_all is_blank blanks) h in
-    ap (λ b. if b then behind_blanks (blanks ++ s) else x ∷ (blanks ++ s)) p.0 ∙ blanks_passed blanks s p.1
+    ap (λ b. if b then after_blanks (blanks ++ s) else x ∷ (blanks ++ s)) p.0 ∙ blanks_passed blanks s p.1
 
 -- what begins with no blank stays
-stays : (s : List ℕ) → (BeginsBlank s → ⊥) → behind_blanks s ≡ s
+stays : (s : List ℕ) → (BeginsBlank s → ⊥) → after_blanks s ≡ s
 stays [] h = refl
-stays (x ∷ s) h = ap (λ b. if b then behind_blanks s else x ∷ s) (false_from_ne_true (is_blank x) (λ e. h (x, s, e, refl)))
+stays (x ∷ s) h = ap (λ b. if b then after_blanks s else x ∷ s) (false_from_ne_true (is_blank x) (λ e. h (x, s, e, refl)))
 
-pub blanks_cut : (blanks s : List ℕ) → AreBlanks blanks → (BeginsBlank s → ⊥) → behind_blanks (blanks ++ s) ≡ s
+pub blanks_cut : (blanks s : List ℕ) → AreBlanks blanks → (BeginsBlank s → ⊥) → after_blanks (blanks ++ s) ≡ s
 blanks_cut blanks s h n = blanks_passed blanks s h ∙ stays s n
 
-skipped : (s : List ℕ) → drop (prefix_len is_blank s) s ≡ behind_blanks s
+skipped : (s : List ℕ) → drop (prefix_len is_blank s) s ≡ after_blanks s
 skipped [] = refl
 skipped (x ∷ s) = go (is_blank x) (skipped s)
   where
-    go : (b : Bool) → drop (prefix_len is_blank s) s ≡ behind_blanks s → drop (cond b (1 + prefix_len is_blank s) 0) (x ∷ s) ≡ (if b then behind_blanks s else x ∷ s)
+    go : (b : Bool) → drop (prefix_len is_blank s) s ≡ after_blanks s → drop (cond b (1 + prefix_len is_blank s) 0) (x ∷ s) ≡ (if b then after_blanks s else x ∷ s)
     go true e = let one : 1 + prefix_len is_blank s ≡ suc (prefix_len is_blank s) = omega arith in ap (λ k. drop k (x ∷ s)) one ∙ e
     go false e = refl
 
@@ -99,25 +100,25 @@ end_unblank s (inr (r, inr e)) (y, rest, is, f) =
     let h : y ≡ 47 = cc in
     cc (sym is ∙ ap is_blank h)
 
-blank_line_is : (s : List ℕ) → is_blank_line s ≡ is_end (token_at Line (behind_blanks s))
+blank_line_is : (s : List ℕ) → is_blank_line s ≡ is_end (token_at Line (after_blanks s))
 blank_line_is s = ap (λ t. is_end (token_at Line t)) (ap (λ k. drop k s) (zero-add (prefix_len is_blank s)) ∙ skipped s)
 
 rest_sound : ((s : List ℕ) → Follows Line s (token_at Line s)) → (s : List ℕ) → is_blank_line s ≡ true → IsRest s
 rest_sound follows s e =
     let u = unblanked s in
-    let t : token_at Line (behind_blanks s) ≡ End = end_is (token_at Line (behind_blanks s)) (sym (blank_line_is s) ∙ e) in
+    let t : token_at Line (after_blanks s) ≡ End = end_is (token_at Line (after_blanks s)) (sym (blank_line_is s) ∙ e) in
     record {
       blanks = u.blanks;
-      end = behind_blanks s;
+      end = after_blanks s;
       text_is = u.whole;
       are_blanks = u.are_blanks;
-      is_end = subst (λ k. Follows Line (behind_blanks s) k) t (follows (behind_blanks s));
+      is_end = subst (λ k. Follows Line (after_blanks s) k) t (follows (after_blanks s));
     }
 
 rest_complete : ((s : List ℕ) → IsEnd s → token_at Line s ≡ End) → (s : List ℕ) → IsRest s → is_blank_line s ≡ true
 rest_complete ends s r =
     blank_line_is s
-    ∙ ap (λ t. is_end (token_at Line (behind_blanks t))) r.text_is
+    ∙ ap (λ t. is_end (token_at Line (after_blanks t))) r.text_is
     ∙ ap (λ t. is_end (token_at Line t)) (blanks_cut r.blanks r.end r.are_blanks (end_unblank r.end r.is_end))
     ∙ ap is_end (ends r.end r.is_end)
 
@@ -276,16 +277,16 @@ then_parts f (Some s) text e = (s, refl, e)
 -- the context text that is read is that of the grammar
 pub context_sound : ((s : List ℕ) → Follows Line s (token_at Line s)) → (line text : List ℕ) → context_text line ≡ Some text → IsContextLine line text
 context_sound follows line text e =
-    let after_equals : List ℕ → Option (List ℕ) = λ t. value_text (behind_blanks t) in
-    let after_word : List ℕ → Option (List ℕ) = λ s. option_and_then after_equals (behind (codes "=") (behind_blanks s)) in
-    let word = then_parts after_word (behind (codes "context") (behind_blanks line)) text e in
-    let equals = then_parts after_equals (behind (codes "=") (behind_blanks word.0)) text word.2 in
+    let after_equals : List ℕ → Option (List ℕ) = λ t. value_text (after_blanks t) in
+    let after_word : List ℕ → Option (List ℕ) = λ s. option_and_then after_equals (behind (codes "=") (after_blanks s)) in
+    let word = then_parts after_word (behind (codes "context") (after_blanks line)) text e in
+    let equals = then_parts after_equals (behind (codes "=") (after_blanks word.0)) text word.2 in
     let u = unblanked line in
     let v = unblanked word.0 in
     let w = unblanked equals.0 in
-    let c : behind_blanks line ≡ codes "context" ++ word.0 = cut_behind (codes "context") (behind_blanks line) word.0 word.1 in
-    let d : behind_blanks word.0 ≡ codes "=" ++ equals.0 = cut_behind (codes "=") (behind_blanks word.0) equals.0 equals.1 in
-    let value : List ℕ = behind_blanks equals.0 in
+    let c : after_blanks line ≡ codes "context" ++ word.0 = cut_behind (codes "context") (after_blanks line) word.0 word.1 in
+    let d : after_blanks word.0 ≡ codes "=" ++ equals.0 = cut_behind (codes "=") (after_blanks word.0) equals.0 equals.1 in
+    let value : List ℕ = after_blanks equals.0 in
     record {
       before_word = u.blanks;
       before_equals = v.blanks;
@@ -302,8 +303,8 @@ context_sound follows line text e =
 -- and each context text of the grammar is read
 pub context_complete : ((s : List ℕ) → IsEnd s → token_at Line s ≡ End) → (line text : List ℕ) → IsContextLine line text → context_text line ≡ Some text
 context_complete ends line text c =
-    let after_equals : List ℕ → Option (List ℕ) = λ t. value_text (behind_blanks t) in
-    let after_word : List ℕ → Option (List ℕ) = λ s. option_and_then after_equals (behind (codes "=") (behind_blanks s)) in
+    let after_equals : List ℕ → Option (List ℕ) = λ t. value_text (after_blanks t) in
+    let after_word : List ℕ → Option (List ℕ) = λ s. option_and_then after_equals (behind (codes "=") (after_blanks s)) in
     let third : List ℕ = c.before_value ++ c.value in
     let second : List ℕ = c.before_equals ++ (codes "=" ++ third) in
     ap context_text c.line_is

@@ -5,7 +5,8 @@ use Rattle.std.proofs.lemmas.List.{append-nil}
 use Rattle.std.proofs.lemmas.List.Sums.{prefix_len-le-length}
 use Rattle.vc_lex.specs.Grammar.{IsTokenText, BeginsToken, Between}
 use Rattle.vc_lex.specs.Lexers.{State, next_place, IsStepBy}
-use Rattle.vc_lex.specs.Scans.{is_blank, token_at, Follows}
+use Rattle.vc_text.specs.Blanks.{is_blank}
+use Rattle.vc_lex.specs.Scans.{token_at, Follows}
 use Rattle.vc_lex.specs.declared.scan.Scan.{Scan}
 use Rattle.vc_lex.specs.declared.scan.Scan.TheVariants.{End, Bad, Found}
 use Rattle.vc_lex.specs.declared.token.Mode.TheVariants.{Line}

@@ -4,7 +4,7 @@ use Rattle.std.specs.Prelude.{if◌then◌else◌}
 use Rattle.std.proofs.lemmas.Bool.{and_parts, eqb-true, eq-eqb, false_from_ne_true}
 use Rattle.std.proofs.lemmas.List.{length-append}
 use Rattle.vc_lex.specs.Grammar.{joined}
-use Rattle.vc_lex.specs.Letters.{is_escaped}
+use Rattle.vc_text.specs.Letters.{is_escaped}
 use Rattle.vc_lines.specs.ContextLines.{BeginsEscapedLetter, IsPiece, ArePieces, Passes}
 use Rattle.vc_lines.specs.Contexts.{before}
 use Rattle.vc_lines.proofs.BytesBefore.{none_before}

@@ -1,14 +1,9 @@
 -- The grammar of a context line.
 use Rattle.std.specs.Prelude.{◌≡◌, ◌⊎◌, ℕ, true, ⊤, List, [], ◌∷◌, ◌++◌, codes}
-use Rattle.std.specs.List.{list_all}
 use Rattle.vc_lex.specs.Grammar.{IsComment, joined}
-use Rattle.vc_lex.specs.Letters.{is_escaped}
-use Rattle.vc_lex.specs.Scans.{is_blank}
+use Rattle.vc_text.specs.Letters.{is_escaped}
+use Rattle.vc_text.specs.Blanks.{AreBlanks, is_blank}
 use Rattle.vc_lex.specs.declared.token.Mode.TheVariants.{Line}
-
--- spaces and tabs alone
-abbrev pub AreBlanks : List ℕ → Type 0
-AreBlanks text = list_all is_blank text ≡ true
 
 -- a space or a tab begins the text
 abbrev pub BeginsBlank : List ℕ → Type 0

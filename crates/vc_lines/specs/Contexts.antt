@@ -7,17 +7,12 @@ use Rattle.vc_context.specs.Spelling.{SpellsContext}
 use Rattle.vc_context.specs.declared.context.AnyContext.{AnyContext}
 use Rattle.vc_context.specs.declared.context.Weights.{Weights}
 use Rattle.vc_label.specs.declared.tape_set.TapeSet.{TapeSet}
-use Rattle.vc_lex.specs.Letters.{is_escaped}
-use Rattle.vc_lex.specs.Scans.{is_blank, begins_with}
+use Rattle.vc_text.specs.Letters.{is_escaped}
+use Rattle.vc_lex.specs.Scans.{begins_with}
 use Rattle.vc_lines.specs.declared.fault.HeadFault.{HeadFault}
 use Rattle.vc_lines.specs.declared.fault.HeadFault.TheVariants.{Syntax}
 use Rattle.vc_lines.specs.ContextLines.{IsContextLine}
 use Rattle.vc_lines.specs.Heads.{HeadLine, is_blank_line}
-
--- the text after the blanks at its front
-abbrev pub behind_blanks : List ℕ → List ℕ
-behind_blanks [] = []
-behind_blanks (x ∷ s) = if is_blank x then behind_blanks s else x ∷ s
 
 -- the text after a front that it begins with
 abbrev pub behind : List ℕ → List ℕ → Option (List ℕ)
@@ -55,8 +50,8 @@ value_text (x ∷ s) = if x == 34 then quoted s else Some (take (before begins_c
 -- the context text of a line: `context`, `=`, and the text, with blanks before each
 abbrev pub context_text : List ℕ → Option (List ℕ)
 context_text line =
-    option_and_then (λ s. option_and_then (λ t. value_text (behind_blanks t)) (behind (codes "=") (behind_blanks s)))
-    (behind (codes "context") (behind_blanks line))
+    option_and_then (λ s. option_and_then (λ t. value_text (after_blanks t)) (behind (codes "=") (after_blanks s)))
+    (behind (codes "context") (after_blanks line))
 
 -- the answer of the reader of the head: the context that the first line that is not blank spells; or that line's number where it spells none, and the last line's where all are blank
 abbrev pub IsContextOf : ℕ → Option HeadLine → Result AnyContext HeadFault → Type 0

@@ -2,7 +2,7 @@
 use Rattle.std.specs.Prelude.{ℕ, ◌-◌, Bool, true, false, ◌&&◌, ◌||◌, List, [], ◌∷◌, length, take, drop, Option, Some, None, if◌then◌else◌}
 use Rattle.std.specs.Option.{is_some, option_and_then}
 use Rattle.std.specs.List.{list_all}
-use Rattle.vc_lex.specs.Letters.{is_plain}
+use Rattle.vc_text.specs.Letters.{is_plain}
 use Rattle.vc_lex.specs.declared.token.TokenKind.{TokenKind}
 use Rattle.vc_lex.specs.declared.token.TokenKind.TheVariants.{One, Run, Quoted, Class, Weight, Bar, Arrow, Comma, Dollar, Name}
 use Rattle.vc_lines.specs.Pieces.{pieces}

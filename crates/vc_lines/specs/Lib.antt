@@ -5,7 +5,6 @@ pub mod Grammar
 pub mod Labels
 pub mod Names
 pub mod Views
-pub mod Classes
 pub mod Heads
 pub mod ContextLines
 pub mod Contexts

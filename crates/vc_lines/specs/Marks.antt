@@ -3,7 +3,8 @@ use Rattle.std.specs.Prelude.{◌≡◌, ◌⊎◌, ℕ, zero, suc, ◌+◌, Lis
 use Rattle.std.specs.Option.{option_map}
 use Rattle.std.specs.List.{prefix_len}
 use Rattle.vc_lex.specs.Grammar.{BeginsToken, IsComment}
-use Rattle.vc_lex.specs.Scans.{is_blank, token_at}
+use Rattle.vc_text.specs.Blanks.{is_blank}
+use Rattle.vc_lex.specs.Scans.{token_at}
 use Rattle.vc_lex.specs.declared.scan.Scan.{Scan}
 use Rattle.vc_lex.specs.declared.scan.Scan.TheVariants.{End, Bad, Found}
 use Rattle.vc_lex.specs.declared.token.Mode.TheVariants.{Line}

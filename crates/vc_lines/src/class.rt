@@ -1,5 +1,6 @@
-ghost use Rattle.std.specs.Prelude.{◌≡◌, ◌<◌, ◌≤◌, ◌&&◌, ◌||◌, ◌==◌, ◌∷◌, [], ℕ, length, nat_le, MatchOption, List};
+ghost use Rattle.std.specs.Prelude.{◌≡◌, ◌<◌, ◌&&◌, ◌||◌, ◌==◌, ◌∷◌, [], ℕ, length, MatchOption, List};
 ghost use Rattle.vc_label.specs.Alphabets.{has_letter};
+ghost use Rattle.vc_label.specs.Letters.{is_letter};
 ghost use Rattle.vc_lines.specs.Labels.{letter, symbols, items_of, has_singles, names_letter, class_items, is_negated, has_in_class, begins_no_letter, body_items};
 ghost use Rattle.vc_lines.specs.Views.{item_seen};
 
@@ -25,11 +26,11 @@ fn next_letter(text: &[u8]) -> Option<(u8, &[u8])>
 }
 
 /// The text after the dash that it begins with.
-fn behind_dash(text: &[u8]) -> Option<&[u8]>
-    ensures { MatchOption result ((rest : List ℕ) → text.now ≡ 45 ∷ rest → ⊥) (λ behind. text.now ≡ 45 ∷ behind.now) }
+fn after_dash(text: &[u8]) -> Option<&[u8]>
+    ensures { MatchOption result ((rest : List ℕ) → text.now ≡ 45 ∷ rest → ⊥) (λ after. text.now ≡ 45 ∷ after.now) }
 {
     match text {
-        [b'-', behind @ ..] => Some(behind),
+        [b'-', after @ ..] => Some(after),
         _ => None,
     }
 }
@@ -40,8 +41,8 @@ fn next_item(text: &[u8]) -> Option<(Item, &[u8])>
         (λ r. (items_of (symbols text.now) ≡ item_seen r.0 ∷ items_of (symbols r.1.now)) × (length r.1.now < length text.now)) }
 {
     let (first, rest) = next_letter(text)?;
-    if let Some(behind) = behind_dash(rest) {
-        if let Some((last, after)) = next_letter(behind) {
+    if let Some(dashed) = after_dash(rest) {
+        if let Some((last, after)) = next_letter(dashed) {
             return Some((Item::Range(first, last), after));
         }
     }
@@ -76,67 +77,39 @@ pub fn has_singles(alphabet: Alphabet, body: &[u8]) -> bool
     true
 }
 
-/// The letters that are there, and the letter, if the alphabet has it.
-fn with_letter(alphabet: Alphabet, named: Alphabet, letter: u8) -> Alphabet
-    ensures { (x : ℕ) → has_letter result x ≡ (has_letter named x || (has_letter alphabet x && x == letter)) }
+// The letters that are there, and one more, if it is a letter.
+fn with_letter(named: Alphabet, letter: u8) -> Alphabet
+    ensures { (x : ℕ) → has_letter result x ≡ (has_letter named x || (is_letter x && x == letter)) }
+{
+    named.with_range(letter, letter)
+}
+
+// The letters that the items of a class name.
+fn named_letters(items: &[u8]) -> Alphabet
+    ensures { (x : ℕ) → has_letter result x ≡ (is_letter x && names_letter (items_of (symbols items.now)) x) }
+{
+    let mut named = Alphabet::new();
+    let mut rest = items;
+    while let Some((item, after)) = next_item(rest) {
+        named = match item {
+            Item::Single(letter) => with_letter(named, letter),
+            Item::Range(first, last) => named.with_range(first, last),
+        };
+        rest = after;
+    }
+    named
+}
+
+/// The letters of a class, whose text between its brackets this is: those of the alphabet that its items name, or with `^`
+/// those that they do not name.
+pub fn class_letters(alphabet: Alphabet, body: &[u8]) -> Alphabet
+    ensures { (x : ℕ) → has_letter result x ≡ (has_letter alphabet x && has_in_class body.now x) }
 {
     alphabets_are_sets();
-    if alphabet.has(letter) {
-        named.with(letter)
-    } else {
-        named
+    let (negated, items) = negation(body);
+    let named = named_letters(items);
+    if negated {
+        return alphabet.without(named);
     }
-}
-
-/// The letters that are there, and those of the alphabet from the first to the last one.
-fn with_range(alphabet: Alphabet, named: Alphabet, first: u8, last: u8) -> Alphabet
-    ensures { (x : ℕ) → has_letter result x ≡ (has_letter named x || (has_letter alphabet x && (nat_le first x && nat_le x last))) }
-{
-    alphabets_are_sets();
-    let end = if last < 127 { last + 1 } else { 127 };
-    let mut all = named;
-    for letter in first..end {
-        all = with_letter(alphabet, all, letter);
-    }
-    all
-}
-
-/// The letters of a class: those of the alphabet that its items name, or with `^` those that they do not name.
-#[derive(Clone, Copy)]
-pub struct Class {
-    alphabet: Alphabet,
-    named: Alphabet,
-    negated: bool,
-}
-
-impl Class {
-    ghost use Rattle.vc_lines.specs.Classes.{class_has};
-
-    /// The class with this text between its brackets.
-    pub fn new(alphabet: Alphabet, body: &[u8]) -> Class
-        ensures { (x : ℕ) → class_has result x ≡ (has_letter alphabet x && has_in_class body.now x) }
-    {
-        let (negated, items) = negation(body);
-        let mut named = Alphabet::new();
-        let mut rest = items;
-        while let Some((item, after)) = next_item(rest) {
-            named = match item {
-                Item::Single(letter) => with_letter(alphabet, named, letter),
-                Item::Range(first, last) => with_range(alphabet, named, first, last),
-            };
-            rest = after;
-        }
-        Class {
-            alphabet,
-            named,
-            negated,
-        }
-    }
-
-    /// Whether the class has this letter.
-    pub fn has(&self, letter: u8) -> bool
-        ensures { result ≡ class_has self.now letter }
-    {
-        self.alphabet.has(letter) && self.named.has(letter) != self.negated
-    }
+    alphabet.intersection(named)
 }

@@ -1,38 +1,20 @@
 ghost use Rattle.std.specs.Prelude.{◌≡◌, ◌<◌, ◌≤◌, length};
 ghost use Rattle.std.specs.Option.{option_copied};
-ghost use Rattle.vc_lines.specs.Contexts.{IsContextOf, before, behind_one, begins_comment, begins_quote, behind, behind_blanks, context_text, quoted, value_text};
+ghost use Rattle.vc_lines.specs.Contexts.{IsContextOf, before, behind_one, begins_comment, begins_quote, behind, context_text, quoted, value_text};
 ghost use Rattle.vc_lines.specs.Heads.{head_line};
 ghost use Rattle.vc_lines.specs.Lines.{lines_of};
-ghost use Rattle.vc_lex.specs.Letters.{is_escaped};
 
 use crate::fault::HeadFault;
 use crate::head::{Head, head_of, is_blank_line};
 use crate::law::context_lines_have_one_text;
 use vc_context::{AnyContext, read_context};
-
-/// The text after the blanks at its front.
-fn behind_blanks(text: &[u8]) -> &[u8]
-    ensures { result.now ≡ behind_blanks text.now }
-{
-    let mut rest = text;
-    while let [b' ' | b'\t', after @ ..] = rest {
-        rest = after;
-    }
-    rest
-}
+use vc_text::{after_blanks, is_escaped};
 
 /// The text after a front that it begins with.
 fn behind<'t>(front: &[u8], text: &'t [u8]) -> Option<&'t [u8]>
     ensures { option_copied result ≡ behind front.now text.now }
 {
     text.strip_prefix(front)
-}
-
-#[tactic(auto, unfolding(vc_lex::specs::Letters::is_escaped, vc_lex::specs::Letters::is_plain))]
-fn is_escaped(byte: u8) -> bool
-    ensures { result ≡ is_escaped byte }
-{
-    0x21 <= byte && byte <= 0x7e && !matches!(byte, b'a'..=b'z' | b'A'..=b'Z' | b'0'..=b'9' | b'_')
 }
 
 fn begins_quote(text: &[u8]) -> bool
@@ -122,9 +104,9 @@ fn value_text(text: &[u8]) -> Option<&[u8]>
 fn context_text(line: &[u8]) -> Option<&[u8]>
     ensures { option_copied result ≡ context_text line.now }
 {
-    let rest = behind(b"context", behind_blanks(line))?;
-    let rest = behind(b"=", behind_blanks(rest))?;
-    value_text(behind_blanks(rest))
+    let rest = behind(b"context", after_blanks(line))?;
+    let rest = behind(b"=", after_blanks(rest))?;
+    value_text(after_blanks(rest))
 }
 
 /// The context of a file, by the first of its lines that is not blank. It takes no memory.

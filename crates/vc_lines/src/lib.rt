@@ -10,7 +10,7 @@ mod line;
 mod lines;
 mod tokens;
 
-pub use class::{Class, has_singles};
+pub use class::{class_letters, has_singles};
 pub use context::daut_context;
 pub use fault::HeadFault;
 pub use head::{Head, head_of};

@@ -1,13 +1,14 @@
 ghost use Rattle.std.specs.Prelude.{◌≡◌, ◌≤◌, ◌∷◌, not, map, length, IfSome};
 ghost use Rattle.std.specs.List.{list_all, prefix_len};
 ghost use Rattle.std.specs.Option.{option_map};
-ghost use Rattle.vc_lines.specs.Grammar.{is_state, is_part_kind, is_bar_kind, is_comma_kind, is_arrow_kind, is_dollar_kind, is_weight_kind, is_class_kind, inside, name_of, are_parts, is_class, is_label, is_comma, entries_of, entry_weight, entry_label, is_weight, is_end, is_entry, are_entries, arrow_line, line_of};
+ghost use Rattle.vc_lines.specs.Grammar.{is_state, is_part_kind, is_bar_kind, is_comma_kind, is_arrow_kind, is_dollar_kind, is_weight_kind, inside, name_of, are_parts, is_class, is_comma, entries_of, entry_weight, entry_label, is_weight, is_end, is_entry, are_entries, arrow_line, line_of};
 ghost use Rattle.vc_lines.specs.Labels.{class_body};
 ghost use Rattle.vc_lines.specs.Views.{seen, line_seen, more_entries, tokens_left, AreFit, AreFitBehind, IsFitLine};
-ghost use Rattle.vc_lex.specs.Letters.{is_plain};
+ghost use Rattle.vc_text.specs.Letters.{is_plain};
 
 use vc_lex::{Token, TokenKind};
 use vc_ring::{NumberFault, Semiring};
+use vc_text::is_plain;
 
 /// A line after the context line, by its tokens.
 #[derive(Clone, Copy)]
@@ -32,13 +33,6 @@ pub fn inside(text: &[u8]) -> &[u8]
         [_, inner @ .., _] => inner,
         _ => &[],
     }
-}
-
-#[tactic(auto, unfolding(vc_lex::specs::Letters::is_plain))]
-fn is_plain(byte: u8) -> bool
-    ensures { result ≡ is_plain byte }
-{
-    matches!(byte, b'a'..=b'z' | b'A'..=b'Z' | b'0'..=b'9' | b'_')
 }
 
 fn is_plain_text(text: &[u8]) -> bool

@@ -1,4 +1,4 @@
-ghost use Rattle.std.specs.Prelude.{◌≡◌, ◌<◌, ◌^◌, Some, None, map, length, IfOk, MatchBool, true, false};
+ghost use Rattle.std.specs.Prelude.{◌≡◌, ◌<◌, Some, None, map, IfOk, MatchBool, true, false};
 ghost use Rattle.vc_lines.specs.Marks.{marks_of};
 ghost use Rattle.vc_lines.specs.Views.{seen, AreFit};
 

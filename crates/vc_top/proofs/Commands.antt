@@ -11,7 +11,7 @@ use Rattle.vc_eval.specs.Cells.{cells, cells_refusal}
 use Rattle.vc_files.specs.Files.{Bytes}
 use Rattle.vc_label.specs.declared.alphabet.Alphabet.{Alphabet}
 use Rattle.vc_label.specs.declared.tape_set.TapeSet.{TapeSet}
-use Rattle.vc_lex.specs.Letters.{is_plain}
+use Rattle.vc_text.specs.Letters.{is_plain}
 use Rattle.vc_model.specs.Automata.{Automaton}
 use Rattle.vc_ring.specs.Texts.{WeightTexts}
 use Rattle.vc_ring.specs.declared.faults.Limit.{Limit as PastLimit}

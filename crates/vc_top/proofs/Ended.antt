@@ -5,7 +5,7 @@ use Rattle.vc_aut.specs.Labelled.{Labelled}
 use Rattle.vc_command.specs.Requests.{Asked}
 use Rattle.vc_command.specs.declared.request.RequestFault.{RequestFault}
 use Rattle.vc_command.specs.declared.request.RequestFault.TheVariants as words
-use Rattle.vc_daut.specs.Heads.{HeadLine}
+use Rattle.vc_lines.specs.Heads.{HeadLine}
 use Rattle.vc_files.specs.Files.{Bytes}
 use Rattle.vc_files.specs.Sink.{Rose, AppendsFront}
 use Rattle.vc_label.specs.declared.tape_set.TapeSet.{TapeSet}

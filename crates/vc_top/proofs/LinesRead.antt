@@ -5,16 +5,16 @@ use Rattle.vc_aut.specs.Drafts.{Draft}
 use Rattle.vc_aut.specs.Labelled.{Labelled}
 use Rattle.vc_aut.specs.Refusals.{weight_refusal}
 use Rattle.vc_aut.specs.Sums.{standing}
-use Rattle.vc_daut.specs.Additions.{HasManyTriples, IsUnfitAddition}
-use Rattle.vc_daut.specs.Answers.{IsPastLimit}
-use Rattle.vc_daut.specs.Answers as answer
-use Rattle.vc_daut.specs.Building.{IsRefused, given_refusal, with_given}
-use Rattle.vc_daut.specs.Heads.{HeadLine}
-use Rattle.vc_daut.specs.Meaning.{Given, begins, ends, moves_by}
-use Rattle.vc_daut.specs.Readings.{IsSameReading, IsWantOfMemory, IsPastBounds}
-use Rattle.vc_daut.specs.Spelling.{bad_line}
-use Rattle.vc_daut.specs.declared.fault.DautFault.{DautFault}
-use Rattle.vc_daut.specs.declared.fault.DautFault.TheVariants as fault
+use Rattle.vc_reader.specs.Additions.{HasManyTriples, IsUnfitAddition}
+use Rattle.vc_reader.specs.Answers.{IsPastLimit}
+use Rattle.vc_reader.specs.Answers as answer
+use Rattle.vc_reader.specs.Building.{IsRefused, given_refusal, with_given}
+use Rattle.vc_lines.specs.Heads.{HeadLine}
+use Rattle.vc_reader.specs.Meaning.{Given, begins, ends, moves_by}
+use Rattle.vc_reader.specs.Readings.{IsSameReading, IsWantOfMemory, IsPastBounds}
+use Rattle.vc_reader.specs.Spelling.{bad_line}
+use Rattle.vc_reader.specs.declared.fault.DautFault.{DautFault}
+use Rattle.vc_reader.specs.declared.fault.DautFault.TheVariants as fault
 use Rattle.vc_files.specs.Files.{Bytes}
 use Rattle.vc_label.specs.declared.tape_set.TapeSet.{TapeSet}
 use Rattle.vc_model.specs.Automata.{Automaton, initial_weight, final_weight}

@@ -10,15 +10,15 @@ use Rattle.vc_command.specs.Requests.{Asked}
 use Rattle.vc_context.specs.Spelling.{SpellsContext}
 use Rattle.vc_context.specs.declared.context.Weights.{Weights}
 use Rattle.vc_context.specs.declared.context.Weights.TheVariants.{B, F2, Z, Q, Nmin}
-use Rattle.vc_daut.specs.Answers.{IsReadBehind}
-use Rattle.vc_daut.specs.ContextLines.{IsContextLine}
-use Rattle.vc_daut.specs.Contexts.{context_text}
-use Rattle.vc_daut.specs.Heads.{HeadLine, head_line}
-use Rattle.vc_daut.specs.Lines.{lines_of}
-use Rattle.vc_daut.specs.Readings.{IsSameReading}
-use Rattle.vc_daut.specs.Spelling.{Spells, bad_line}
-use Rattle.vc_daut.specs.declared.fault.DautFault.{DautFault}
-use Rattle.vc_daut.specs.declared.fault.DautFault.TheVariants as fault
+use Rattle.vc_reader.specs.Answers.{IsReadBehind}
+use Rattle.vc_lines.specs.ContextLines.{IsContextLine}
+use Rattle.vc_lines.specs.Contexts.{context_text}
+use Rattle.vc_lines.specs.Heads.{HeadLine, head_line}
+use Rattle.vc_lines.specs.Lines.{lines_of}
+use Rattle.vc_reader.specs.Readings.{IsSameReading}
+use Rattle.vc_reader.specs.Spelling.{Spells, bad_line}
+use Rattle.vc_reader.specs.declared.fault.DautFault.{DautFault}
+use Rattle.vc_reader.specs.declared.fault.DautFault.TheVariants as fault
 use Rattle.vc_files.specs.Files.{Bytes, Held, Holds}
 use Rattle.vc_label.specs.declared.tape_set.TapeSet.{TapeSet}
 use Rattle.vc_model.specs.Automata.{Automaton}

@@ -7,7 +7,7 @@ use Rattle.vc_context.specs.Canonical.{context_text}
 use Rattle.vc_context.specs.Spelling.{SpellsContext}
 use Rattle.vc_context.specs.declared.context.Weights.{Weights}
 use Rattle.vc_daut.specs.Canonical.{automaton_text}
-use Rattle.vc_daut.specs.Spelling.{SpellsAutomaton}
+use Rattle.vc_reader.specs.Spelling.{SpellsAutomaton}
 use Rattle.vc_files.specs.Files.{Bytes}
 use Rattle.vc_label.specs.declared.tape_set.TapeSet.{TapeSet}
 use Rattle.vc_ring.specs.Texts.{WeightTexts}

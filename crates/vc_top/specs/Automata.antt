@@ -3,7 +3,7 @@ use Rattle.std.specs.Prelude.{◌≡◌}
 use Rattle.vc_aut.specs.Labelled.{Labelled}
 use Rattle.vc_context.specs.declared.context.Weights.{Weights}
 use Rattle.vc_daut.specs.Canonical.{automaton_text}
-use Rattle.vc_daut.specs.Spelling.{SpellsAutomaton}
+use Rattle.vc_reader.specs.Spelling.{SpellsAutomaton}
 use Rattle.vc_files.specs.Files.{Bytes}
 use Rattle.vc_ring.specs.Texts.{WeightTexts}
 use Rattle.vc_top.specs.Inputs.{Input}

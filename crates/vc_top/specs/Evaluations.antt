@@ -10,7 +10,7 @@ use Rattle.vc_label.specs.Alphabets.{has_letter}
 use Rattle.vc_label.specs.declared.alphabet.Alphabet.{Alphabet}
 use Rattle.vc_label.specs.declared.tape_set.TapeKind.TheVariants.{Letters}
 use Rattle.vc_label.specs.declared.tape_set.TapeSet.{TapeSet}
-use Rattle.vc_lex.specs.Letters.{is_plain}
+use Rattle.vc_text.specs.Letters.{is_plain}
 use Rattle.vc_model.specs.Automata.{Automaton, coefficient}
 use Rattle.vc_model.specs.Lists.{In}
 use Rattle.vc_model.specs.WeightSet.{WeightSet}

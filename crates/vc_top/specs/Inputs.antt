@@ -4,16 +4,16 @@ use Rattle.std.specs.List.{flat_map}
 use Rattle.vc_aut.specs.Labelled.{Labelled}
 use Rattle.vc_context.specs.Spelling.{SpellsContext}
 use Rattle.vc_context.specs.declared.context.Weights.{Weights}
-use Rattle.vc_daut.specs.Additions.{HasManyTriples, IsUnfitAddition}
-use Rattle.vc_daut.specs.Answers.{IsReadBehind}
-use Rattle.vc_daut.specs.ContextLines.{IsContextLine}
-use Rattle.vc_daut.specs.Heads.{HeadLine, head_line}
-use Rattle.vc_daut.specs.Lines.{lines_of}
-use Rattle.vc_daut.specs.Names.{line_names, with_names}
-use Rattle.vc_daut.specs.Passes.{IsNumeralAt}
-use Rattle.vc_daut.specs.Spelling.{Spells, bad_line, lines_in, IsFirstLabel}
-use Rattle.vc_daut.specs.declared.fault.DautFault.{DautFault}
-use Rattle.vc_daut.specs.declared.fault.DautFault.TheVariants.{Overflow, Limit}
+use Rattle.vc_reader.specs.Additions.{HasManyTriples, IsUnfitAddition}
+use Rattle.vc_reader.specs.Answers.{IsReadBehind}
+use Rattle.vc_lines.specs.ContextLines.{IsContextLine}
+use Rattle.vc_lines.specs.Heads.{HeadLine, head_line}
+use Rattle.vc_lines.specs.Lines.{lines_of}
+use Rattle.vc_lines.specs.Names.{line_names, with_names}
+use Rattle.vc_reader.specs.Passes.{IsNumeralAt}
+use Rattle.vc_reader.specs.Spelling.{Spells, bad_line, lines_in, IsFirstLabel}
+use Rattle.vc_reader.specs.declared.fault.DautFault.{DautFault}
+use Rattle.vc_reader.specs.declared.fault.DautFault.TheVariants.{Overflow, Limit}
 use Rattle.vc_files.specs.Files.{Bytes}
 use Rattle.vc_label.specs.declared.tape_set.TapeSet.{TapeSet}
 use Rattle.vc_model.specs.Automata.{Automaton}

@@ -5,10 +5,10 @@ use Rattle.vc_aut.specs.Labelled.{Labelled}
 use Rattle.vc_command.specs.declared.request.RequestFault.{RequestFault}
 use Rattle.vc_command.specs.declared.request.RequestFault.TheVariants as words
 use Rattle.vc_context.specs.declared.context.Weights.TheVariants as weights
-use Rattle.vc_daut.specs.declared.fault.DautFault.{DautFault}
-use Rattle.vc_daut.specs.declared.fault.DautFault.TheVariants as fault
-use Rattle.vc_daut.specs.declared.fault.HeadFault.{HeadFault}
-use Rattle.vc_daut.specs.declared.fault.HeadFault.TheVariants as head
+use Rattle.vc_reader.specs.declared.fault.DautFault.{DautFault}
+use Rattle.vc_reader.specs.declared.fault.DautFault.TheVariants as fault
+use Rattle.vc_lines.specs.declared.fault.HeadFault.{HeadFault}
+use Rattle.vc_lines.specs.declared.fault.HeadFault.TheVariants as head
 use Rattle.vc_files.specs.Files.{Bytes}
 use Rattle.vc_top.specs.Inputs.{Input}
 use Rattle.vc_top.specs.Outcomes.{Answer}

@@ -7,7 +7,8 @@ use Rattle.vc_context.specs.Sets.{tapes_of}
 use Rattle.vc_daut.specs.Canonical.{line_text, initial_line, state_lines}
 use Rattle.vc_model.specs.Lists.{below}
 use Rattle.vc_daut.proofs.GrowingTexts.{four}
-use Rattle.vc_daut.proofs.TextFronts.{front_of, front_twice, five}
+use Rattle.vc_text.specs.Fronts.{front_of, front_twice}
+use Rattle.vc_daut.proofs.GrowingTexts.{five}
 use Rattle.vc_daut.proofs.write.push_automaton.Goals as goal
 
 pub returns-clause-ok : goal.returns-clause-ok

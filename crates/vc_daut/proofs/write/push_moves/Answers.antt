@@ -1,5 +1,6 @@
 use Rattle.std.proofs.Common.{string_bytes}
-use Rattle.vc_daut.proofs.TextFronts.{front_of, front_twice, five, six}
+use Rattle.vc_text.specs.Fronts.{front_of, front_twice}
+use Rattle.vc_daut.proofs.GrowingTexts.{five, six}
 use Rattle.vc_daut.proofs.write.push_moves.Goals as goal
 
 pub returns-clause-ok : goal.returns-clause-ok

@@ -10,6 +10,6 @@ use Rattle.vc_reader.proofs.add.add_class.Given as goal
 abbrev pub invariant-loop-letter : goal.invariant-loop-letter
 invariant-loop-letter g l =
     LeadsTo g.S.Semiring.set g.S.Semiring.spelled g.S.Semiring.numbers_fit
-    [] l.builder (given_from l.class l.arrow.from l.arrow.to l.arrow.weight l.letter)
+    [] l.builder (given_from l.letters l.arrow.from l.arrow.to l.arrow.weight l.letter)
     [] l.initial.builder (map (moves_with l.arrow.from l.arrow.to l.arrow.weight) (class_words (g.L.LabelSet.sets l.labels) l.body))
     × KeepsShape l.initial.builder l.builder
