@@ -1,5 +1,4 @@
 pub mod Outcomes
-pub mod Weights
 pub mod Headed
 pub mod LinesRead
 pub mod Evaluated

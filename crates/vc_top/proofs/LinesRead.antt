@@ -76,8 +76,8 @@ module _ {V : Type 0} (T : WeightTexts V) where
 
     module _
         (apart : (x y : Result (Labelled V) (DautFault V)) → Read x → Read y → IsSameReading x y)
-        (added : (line : ℕ) (v w : V) → answer.IsUnfit T.set T.same T.spelled T.numbers_fit sets h line (make.Overflow (Add v w)) → IsUnfitAddition T.set T.spelled sets h line v w)
-        (counted : (most : ℕ) → IsPastLimit T.set T.same T.spelled T.numbers_fit sets h (record { what = Transitions; most = most }) → (most ≡ 4000000) × HasManyTriples T.set T.spelled sets h) where
+        (added : (line : ℕ) (v w : V) → answer.IsUnfit T sets h line (make.Overflow (Add v w)) → IsUnfitAddition T sets h line v w)
+        (counted : (most : ℕ) → IsPastLimit T sets h (record { what = Transitions; most = most }) → (most ≡ 4000000) × HasManyTriples T sets h) where
       -- an answer that is no want of memory and nothing past bounds excludes each other one
       alone : (x y : Result (Labelled V) (DautFault V)) → ¬ IsWantOfMemory x → ¬ IsWantOfMemory y → ¬ (IsPastBounds x × IsPastBounds y) → ¬ (x ≡ y) → Read x → Read y → ⊥
       alone x y mx my p d rx ry = go (apart x y rx ry)
@@ -150,7 +150,7 @@ module _ {V : Type 0} (T : WeightTexts V) where
       pub automaton_read : (x : Labelled V) → Read (Ok x) → SpellsLines T sets h x.automaton → x.sets ≡ sets → ReadsLines T file sets h (Ok x)
       automaton_read x r l e = behind (Ok x) tt r (Ok x) (inr (no_unfit_file x r, (x.automaton, l, ap (λ s. Ok (over s x.automaton)) e)))
 
-      limit_read : (l : PastLimit) → Read (Err (fault.Limit l)) → IsPastLimit T.set T.same T.spelled T.numbers_fit sets h l → OrMemory (ReadsLines T file sets h) (Err (limit (Of l.what)))
+      limit_read : (l : PastLimit) → Read (Err (fault.Limit l)) → IsPastLimit T sets h l → OrMemory (ReadsLines T file sets h) (Err (limit (Of l.what)))
       limit_read l r (inl p) = subst (λ (m : PastLimit). OrMemory (ReadsLines T file sets h) (Err (limit (Of m.what)))) (sym p.0) (unfit (Err (fault.Limit l)) tt r (limit (Of States)) (inr (inl (refl, p.1))))
       limit_read l r (inr (names, n, q)) = subst (λ (m : PastLimit). OrMemory (ReadsLines T file sets h) (Err (limit (Of m.what)))) (sym e) (unfit (Err (fault.Limit transitions_limit)) tt at (limit (Of Transitions)) (inr (inr (refl, ((counted 4000000 at.1).1, at)))))
         where

@@ -52,16 +52,15 @@ some_same o x y p q = cc (sym p ∙ q)
 
 -- texts spell at most one automaton over these elements
 abbrev pub OneAutomaton : Type 0 → Type 0
-OneAutomaton V = (R : WeightSet V) → SemiringLaws R → (spelled : List ℕ → Option V) (sets : List TapeSet) (texts : List Bytes) (A C : Automaton V) → Spells R spelled sets texts A → Spells R spelled sets texts C → A ≡ C
+OneAutomaton V = (T : WeightTexts V) → SemiringLaws T.set → (sets : List TapeSet) (texts : List Bytes) (A C : Automaton V) → Spells T sets texts A → Spells T sets texts C → A ≡ C
 
 -- the answers of the reader over these elements exclude each other
 abbrev pub AreApart : Type 0 → Type 0
-AreApart V = (R : WeightSet V) (same : V → V → Bool) (spelled : List ℕ → Option V) (fit : List ℕ → Bool) (sets : List TapeSet) (h : HeadLine) (x y : Result (Labelled V) (DautFault V))
-    → IsReadBehind R same spelled fit sets h x → IsReadBehind R same spelled fit sets h y → IsSameReading x y
+AreApart V = (T : WeightTexts V) (sets : List TapeSet) (h : HeadLine) (x y : Result (Labelled V) (DautFault V)) → IsReadBehind T sets h x → IsReadBehind T sets h y → IsSameReading x y
 
 -- the lines of a file
 module _ {V : Type 0} (T : WeightTexts V)
-    (one : (sets : List TapeSet) (texts : List Bytes) (A C : Automaton V) → Spells T.set T.spelled sets texts A → Spells T.set T.spelled sets texts C → A ≡ C)
+    (one : (sets : List TapeSet) (texts : List Bytes) (A C : Automaton V) → Spells T sets texts A → Spells T sets texts C → A ≡ C)
     (apart : (sets : List TapeSet) (h : HeadLine) (x y : Result (Labelled V) (DautFault V)) → IsReading T sets h x → IsReading T sets h y → IsSameReading x y)
     (file : Bytes) (sets : List TapeSet) (h : HeadLine) where
   no_bad_line : (o : Option ℕ) → ((x : ℕ) → ¬ (o ≡ Some x)) → o ≡ None
@@ -113,7 +112,7 @@ module _
       ap (λ h. headed h f.sets f.weights) e ∙ ap (λ s. headed g.head s f.weights) k.0 ∙ ap (λ w. headed g.head g.sets w) k.1
 
   lines_over : {V : Type 0} (T : WeightTexts V) → SemiringLaws T.set → OneAutomaton V → AreApart V → (file : Bytes) (sets : List TapeSet) (h : HeadLine) → IsLawful Every ⊥ (ReadsLines T file sets h)
-  lines_over T L one apart file sets h = lines T (one T.set L T.spelled) (apart T.set T.same T.spelled T.numbers_fit) file sets h
+  lines_over T L one apart file sets h = lines T (one T L) (apart T) file sets h
 
   lines_of_set : (w : Weights) (file : Bytes) (sets : List TapeSet) (h : HeadLine) → IsLawful Every ⊥ (ReadsLines (texts_of w) file sets h)
   lines_of_set B = lines_over truth_weights truth_laws truths truths_apart

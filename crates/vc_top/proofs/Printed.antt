@@ -24,6 +24,6 @@ pub no_context : (text : Bytes) → ((sets : List TapeSet) (weights : Weights) �
 no_context text n = inr (inl (λ c. n c.0 c.1, refl))
 
 pub automaton_printed : {V : Type 0} (T : WeightTexts V) (weights : Weights) (a : Labelled V) (text : String Global)
-    → string_bytes text ≡ automaton_text T.set T.same T.canonical a.sets weights a.automaton
-    → SpellsAutomaton T.set T.spelled (automaton_text T.set T.same T.canonical a.sets weights a.automaton) a.sets weights a.automaton → OrMemory (Prints T weights a) (Ok (string_bytes text))
-automaton_printed T weights a text e s = inr (string_bytes text, record { canonical = e; spells = subst (λ t. SpellsAutomaton T.set T.spelled t a.sets weights a.automaton) (sym e) s }, refl)
+    → string_bytes text ≡ automaton_text T a.sets weights a.automaton
+    → SpellsAutomaton T (automaton_text T a.sets weights a.automaton) a.sets weights a.automaton → OrMemory (Prints T weights a) (Ok (string_bytes text))
+automaton_printed T weights a text e s = inr (string_bytes text, record { canonical = e; spells = subst (λ t. SpellsAutomaton T t a.sets weights a.automaton) (sym e) s }, refl)

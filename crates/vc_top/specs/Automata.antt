@@ -12,8 +12,8 @@ use Rattle.vc_top.specs.Sets.{texts_of}
 
 -- the text of an automaton over a weight set, whose name is given: the canonical one, which spells the automaton
 pub record IsTextOf {V : Type 0} (T : WeightTexts V) (weights : Weights) (a : Labelled V) (text : Bytes) : Type 0 where
-  pub canonical : text ≡ automaton_text T.set T.same T.canonical a.sets weights a.automaton
-  pub spells : SpellsAutomaton T.set T.spelled text a.sets weights a.automaton
+  pub canonical : text ≡ automaton_text T a.sets weights a.automaton
+  pub spells : SpellsAutomaton T text a.sets weights a.automaton
 
 -- the text of the automaton
 abbrev pub Prints : {V : Type 0} → WeightTexts V → Weights → Labelled V → Outcome Bytes

@@ -51,11 +51,11 @@ pub record Input : Type 0 where
 module _ {V : Type 0} (T : WeightTexts V) where
   -- the reader may answer this, where `h` is the context line
   abbrev pub IsReading : List TapeSet → HeadLine → Result (Labelled V) (DautFault V) → Type 0
-  IsReading = IsReadBehind T.set T.same T.spelled T.numbers_fit
+  IsReading = IsReadBehind T
 
   -- the lines after the context line spell this automaton
   abbrev pub SpellsLines : List TapeSet → HeadLine → Automaton V → Type 0
-  SpellsLines sets h = Spells T.set T.spelled sets h.behind
+  SpellsLines sets h = Spells T sets h.behind
 
   -- the first text after the context line that is no line of the grammar has this number
   abbrev pub IsBadLine : HeadLine → ℕ → Type 0
@@ -71,7 +71,7 @@ module _ {V : Type 0} (T : WeightTexts V) where
 
   -- a line adds a weight to the sum of those before it, of the same state, or of the same source, label and target, and this sum does not fit; reading stops there
   abbrev pub HasUnfitAddition : List TapeSet → HeadLine → Type 0
-  HasUnfitAddition sets h = (line : ℕ) × (v w : V) × IsUnfitAddition T.set T.spelled sets h line v w × IsReading sets h (Err (Overflow line (Add v w)))
+  HasUnfitAddition sets h = (line : ℕ) × (v w : V) × IsUnfitAddition T sets h line v w × IsReading sets h (Err (Overflow line (Add v w)))
 
   -- the lines name more than 1,000,000 states
   abbrev pub HasManyStates : HeadLine → Type 0
@@ -79,7 +79,7 @@ module _ {V : Type 0} (T : WeightTexts V) where
 
   -- the lines have transitions of more than 4,000,000 sources, labels and targets, and reading stops there
   abbrev pub HasManyTransitions : List TapeSet → HeadLine → Type 0
-  HasManyTransitions sets h = HasManyTriples T.set T.spelled sets h × IsReading sets h (Err (Limit (record { what = Transitions; most = 4000000 })))
+  HasManyTransitions sets h = HasManyTriples T sets h × IsReading sets h (Err (Limit (record { what = Transitions; most = 4000000 })))
 
   -- a reason to refuse lines that are in the grammar and whose labels are in the label sets
   abbrev pub IsUnfit : List TapeSet → HeadLine → Reason → Type 0
