@@ -36,7 +36,7 @@ module _ {V : Type 0} (R : WeightSet V) where
     after : (t u : Transition V) → triple_order t u ≡ Greater → triple_order u t ≡ Less
     after t u h = total.antisymm u t ∙ ap ordering_reverse h
 
-    later : (t u : Transition V) (us : List (Transition V)) → triple_order t u ≡ Less → AllByRecursion (λ v. triple_order u v ≡ Less) us → AllByRecursion (λ v. triple_order t v ≡ Less) us
+    pub later : (t u : Transition V) (us : List (Transition V)) → triple_order t u ≡ Less → AllByRecursion (λ v. triple_order u v ≡ Less) us → AllByRecursion (λ v. triple_order t v ≡ Less) us
     later t u [] l h = tt
     later t u (v ∷ vs) l h = (total.trans t u v l h.0, later t u vs l h.1)
 
@@ -54,7 +54,7 @@ module _ {V : Type 0} (R : WeightSet V) where
         (λ l. all_inserted (λ v. triple_order u v ≡ Less) (λ v w e. e) us t l (sorted_head triple_order u us h))
         (triple_order t u) refl
 
-    none_after : (t : Transition V) (us : List (Transition V)) → AllByRecursion (λ v. triple_order t v ≡ Less) us → standing us t ≡ None
+    pub none_after : (t : Transition V) (us : List (Transition V)) → AllByRecursion (λ v. triple_order t v ≡ Less) us → standing us t ≡ None
     none_after t [] h = refl
     none_after t (u ∷ us) h = let l : triple_order t u ≡ Less = h.0 in rw l (none_after t us h.1)
 

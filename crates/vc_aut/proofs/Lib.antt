@@ -8,3 +8,8 @@ pub mod Drafted
 pub mod Added
 pub mod States
 pub mod EmptyLabels
+pub mod Groups
+pub mod Merged
+pub mod Merging
+pub mod Sorted
+pub mod Summed

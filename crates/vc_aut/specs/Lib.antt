@@ -6,3 +6,5 @@ pub mod Drafts
 pub mod Refusals
 pub mod Sums
 pub mod EmptyLabels
+pub mod Additions
+pub mod Runs

@@ -1,9 +1,10 @@
+use crate::gather::gather;
 use crate::starts::starts;
 use crate::transition::Transition;
 use std::alloc::{AllocError, Global};
 use std::marker::Model;
-use vc_label::LabelSet;
-use vc_ring::Semiring;
+use vc_label::{LabelSet, words_are_ordered};
+use vc_ring::{MakeFault, Semiring};
 
 /// A weighted automaton (Sakarovitch, Elements of Automata Theory): states with initial and final
 /// weights, and transitions that read labels of one label set. A `Builder` makes it.
@@ -37,10 +38,14 @@ impl<L: LabelSet, S: Semiring> Model for Automaton<L, S> {
 }
 
 impl<L: LabelSet, S: Semiring> Automaton<L, S> {
-    ghost use Rattle.std.specs.Prelude.{◌≡◌, ◌<◌, ◌==◌, IfOk, IsTrue, map, filter};
+    ghost use Rattle.std.specs.Prelude.{◌≡◌, ◌<◌, ◌≤◌, ◌==◌, [], All, IfOk, IsTrue, length, map, filter};
+    ghost use Rattle.vc_aut.specs.Additions.{IsSumAnswer};
+    ghost use Rattle.vc_aut.specs.Drafts.{without_zeros};
     ghost use Rattle.vc_aut.specs.Stored.{automaton_of, transition_of};
-    ghost use Rattle.vc_aut.specs.Validity.{IsLabelled};
+    ghost use Rattle.vc_aut.specs.Sums.{insert_all};
+    ghost use Rattle.vc_aut.specs.Validity.{IsLabelled, IsMove};
     ghost use Rattle.vc_model.specs.Automata.{initial_weight, final_weight};
+    ghost use Rattle.vc_model.specs.WeightSet.{InRange};
 
     /// The automaton of these parts: the transitions are in order, and none has the weight zero.
     pub(crate) fn new(
@@ -61,6 +66,34 @@ impl<L: LabelSet, S: Semiring> Automaton<L, S> {
             transitions,
             starts,
         })
+    }
+
+    /// The automaton of these weights of states, and of the sum of the transitions, which come in
+    /// any order: weights of equal triples are added up in the order of the list, and zero sums
+    /// are dropped. `Overflow` names an addition of them that does not fit, and `Limit` comes where
+    /// more than 4,000,000 triples are different. Transitions in order are not moved by a sort.
+    pub fn from_transitions(
+        alloc: Global,
+        labels: L,
+        initial_weights: Vec<S::Value>,
+        final_weights: Vec<S::Value>,
+        transitions: Vec<Transition<L, S>>,
+    ) -> Result<Self, MakeFault<S::Value>>
+        requires states { length initial_weights.items ≤ 1000000 }
+        requires same_length { length final_weights.items ≡ length initial_weights.items }
+        requires initial_in { InRange S.set initial_weights.items }
+        requires final_in { InRange S.set final_weights.items }
+        requires moves { All (IsMove S.set (L.sets labels) (length initial_weights.items)) (map (transition_of L.parts) transitions.items) }
+        ensures ok { IfOk result (λ a. a ≡ record { sets = L.sets labels; automaton = automaton_of initial_weights.items final_weights.items (without_zeros S.set S.Value.eq (insert_all S.set [] (map (transition_of L.parts) transitions.items))) }) }
+        ensures answer { IsSumAnswer S.set (map (transition_of L.parts) transitions.items) result }
+    {
+        words_are_ordered();
+        let transitions = gather(alloc, transitions)?;
+        let Ok(aut) = Automaton::new(alloc, labels, initial_weights, final_weights, transitions)
+        else {
+            return Err(MakeFault::Memory(AllocError));
+        };
+        Ok(aut)
     }
 
     /// The label set of the transitions.

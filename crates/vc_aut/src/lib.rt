@@ -3,6 +3,7 @@
 
 mod automaton;
 mod builder;
+mod gather;
 mod laws;
 mod moves;
 mod proper;

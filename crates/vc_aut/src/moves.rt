@@ -11,7 +11,7 @@ use std::collections::btree_map::Entry;
 use vc_label::LabelSet;
 use vc_ring::{Limit, MakeFault, Measure, Semiring};
 
-const MOST_TRANSITIONS: usize = 4_000_000;
+pub(crate) const MOST_TRANSITIONS: usize = 4_000_000;
 
 /// The transitions that are being added up, by source, label and target.
 pub(crate) type Moves<L, S> = BTreeMap<(u32, <L as LabelSet>::Label, u32), <S as Semiring>::Value>;

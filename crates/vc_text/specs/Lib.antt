@@ -3,3 +3,5 @@ pub mod LetterLaws
 pub mod Blanks
 pub mod Growing
 pub mod Fronts
+pub mod Classes
+pub mod ItemViews

@@ -1,12 +1,14 @@
-//! What texts are made of: letters, blanks, and texts that grow.
+//! What texts are made of: letters, classes of letters, blanks, and texts that grow.
 #![tactic(auto)]
 
 mod blanks;
+mod classes;
 mod growing;
 mod letters;
 #[cfg(test)]
 mod tests;
 
 pub use blanks::{after_blanks, is_blank};
+pub use classes::class_letters;
 pub use growing::{cut_back, push_byte, push_letter, push_number, push_text};
 pub use letters::{LetterAt, is_escaped, is_plain, letter_at};

@@ -1,5 +1,6 @@
 use super::*;
 use std::alloc::AllocError;
+use vc_label::Alphabet;
 
 #[test]
 fn letters_are_read_and_written(rt: HostRuntime) -> Result<(), AllocError> {
@@ -36,4 +37,26 @@ fn texts_grow(rt: HostRuntime) -> Result<(), AllocError> {
 #[test]
 fn blanks_are_left_out(rt: HostRuntime) {
     assert_eq!(rt; after_blanks(b" \t n "), b"n ".as_slice());
+}
+
+#[test]
+fn classes_have_their_letters(rt: HostRuntime) {
+    let alphabet = Alphabet::new().with_range(b'a', b'd').with(b'^');
+    for (body, letters) in [
+        (b"ba".as_slice(), Some(b"ab".as_slice())),
+        (b"^b", Some(b"^acd")),
+        (b"c-z\\^", Some(b"^cd")),
+        (b"x-z", Some(b"")),
+        (b"^", Some(b"^abcd")),
+        (b"x", None),
+        (b"^x", None),
+    ] {
+        let found = class_letters(alphabet, body);
+        assert_eq!(rt; found.is_some(), letters.is_some());
+        let mut found = found.unwrap_or(Alphabet::new()).letters();
+        for letter in letters.unwrap_or(b"") {
+            assert_eq!(rt; found.next(), Some(*letter));
+        }
+        assert!(rt; found.next().is_none());
+    }
 }
