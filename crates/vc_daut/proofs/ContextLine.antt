@@ -16,7 +16,7 @@ use Rattle.vc_label.specs.declared.alphabet.Alphabet.{Alphabet}
 use Rattle.vc_label.specs.declared.tape_set.TapeKind.{TapeKind}
 use Rattle.vc_label.specs.declared.tape_set.TapeKind.TheVariants.{Letters, Nullable, Words}
 use Rattle.vc_label.specs.declared.tape_set.TapeSet.{TapeSet}
-use Rattle.vc_lex.specs.declared.letters.LetterAt.{LetterAt}
+use Rattle.vc_text.specs.declared.letters.LetterAt.{LetterAt}
 use Rattle.vc_lex.specs.Fronts.{front}
 use Rattle.vc_lex.specs.Scans.{letter_width, line_token}
 use Rattle.vc_lex.specs.declared.scan.Scan.TheVariants.{Found}

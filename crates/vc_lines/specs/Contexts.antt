@@ -12,6 +12,7 @@ use Rattle.vc_lex.specs.Scans.{begins_with}
 use Rattle.vc_lines.specs.declared.fault.HeadFault.{HeadFault}
 use Rattle.vc_lines.specs.declared.fault.HeadFault.TheVariants.{Syntax}
 use Rattle.vc_lines.specs.ContextLines.{IsContextLine}
+use Rattle.vc_text.specs.Blanks.{after_blanks}
 use Rattle.vc_lines.specs.Heads.{HeadLine, is_blank_line}
 
 -- the text after a front that it begins with

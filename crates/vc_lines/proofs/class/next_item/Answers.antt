@@ -15,7 +15,7 @@ returns-in-Some-next_letter c =
 pub returns : goal.returns
 returns c =
     let f = c.in_ok-first.ensures.1 in (
-      elim c.match-behind_dash.branch [
+      elim c.match-after_dash.branch [
         | in-Some+in_default-next_letter w ↦ dash_item c.args.text.now c.in_ok-first.rest.now w.in-Some.dashed.now c.in_ok-first.first c.in_ok-first.ensures.0 w.in-Some.ensures w.in_default-next_letter.ensures
         | in_default w ↦ single_item c.args.text.now c.in_ok-first.rest.now c.in_ok-first.first c.in_ok-first.ensures.0 w.in_default.ensures
       ],
