@@ -1,3 +1,4 @@
 pub mod Found
 pub mod Cuts
 pub mod Ranges
+pub mod Spelled

@@ -27,7 +27,7 @@ no_dash (x ∷ y ∷ s) n q h = go (x == 92) h
     go true h = cc
     go false h = no_dash_at (x == 45) x (symbols (y ∷ s)) q refl (λ e. n (y ∷ s) (ap (λ z. z ∷ y ∷ s) e)) h
 
-single_at : (x : ℕ) (q : List Symbol) → ((r : List Symbol) → q ≡ dash ∷ r → ⊥) → items_of (letter x ∷ q) ≡ single x ∷ items_of q
+pub single_at : (x : ℕ) (q : List Symbol) → ((r : List Symbol) → q ≡ dash ∷ r → ⊥) → items_of (letter x ∷ q) ≡ single x ∷ items_of q
 single_at x [] n = refl
 single_at x (letter y ∷ q) n = refl
 single_at x (dash ∷ q) n = absurd (n q refl)

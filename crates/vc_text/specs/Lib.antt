@@ -5,3 +5,4 @@ pub mod Growing
 pub mod Fronts
 pub mod Classes
 pub mod ItemViews
+pub mod Items

@@ -4,6 +4,7 @@
 mod blanks;
 mod classes;
 mod growing;
+mod laws;
 mod letters;
 #[cfg(test)]
 mod tests;
@@ -11,4 +12,5 @@ mod tests;
 pub use blanks::{after_blanks, is_blank};
 pub use classes::class_letters;
 pub use growing::{cut_back, push_byte, push_letter, push_number, push_text};
+pub use laws::items_are_read;
 pub use letters::{LetterAt, is_escaped, is_plain, letter_at};
