@@ -35,7 +35,7 @@ use Rattle.vc_top.specs.Reasons.{Reason, in_line, limit, no_label, syntax}
 use Rattle.vc_top.specs.Seen.{Seen, seen}
 use Rattle.vc_top.specs.Sets.{texts_of, truth_weights, residue_weights, whole_weights, fraction_weights, tropical_weights}
 use Rattle.vc_top.specs.declared.refusal.Bound.TheVariants.{Of}
-use Rattle.vc_top.proofs.Commands.{IsLawfulPlan, IsTextReason, one_context, plans_are_lawful}
+use Rattle.vc_top.proofs.Commands.{IsLawfulPlan, one_context, plans_are_lawful}
 use Rattle.vc_top.proofs.Lawful.{Alike, IsKept, IsLawful, after, any, for_such, gives, unless, with_one}
 use Rattle.vc_top.proofs.Parts.{AgreeBy, after_part, of_part}
 

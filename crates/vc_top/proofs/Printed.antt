@@ -11,7 +11,7 @@ use Rattle.vc_reader.specs.Spelling.{SpellsAutomaton}
 use Rattle.vc_files.specs.Files.{Bytes}
 use Rattle.vc_label.specs.declared.tape_set.TapeSet.{TapeSet}
 use Rattle.vc_ring.specs.Texts.{WeightTexts}
-use Rattle.vc_top.specs.Automata.{IsTextOf, Prints}
+use Rattle.vc_top.specs.Automata.{Prints}
 use Rattle.vc_top.specs.Contexts.{AnswersContext}
 use Rattle.vc_top.specs.Outcomes.{OrMemory}
 use Rattle.vc_top.specs.Reasons.{in_context, syntax}

@@ -1,5 +1,5 @@
 -- Which answers a request allows, each with its cause, and in what two of them agree.
-use Rattle.std.specs.Prelude.{◌≡◌, ◌⊎◌, ◌<◌, Option, Result, Ok, Err, List, length, ⊤}
+use Rattle.std.specs.Prelude.{◌≡◌, ◌⊎◌, ◌<◌, Option, Ok, Err, List, length, ⊤}
 use Rattle.vc_command.specs.Requests.{Asked}
 use Rattle.vc_files.specs.Files.{Bytes}
 use Rattle.vc_model.specs.Lists.{In}

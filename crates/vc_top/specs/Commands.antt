@@ -6,7 +6,7 @@ use Rattle.vc_top.specs.Contexts.{AnswersContext}
 use Rattle.vc_top.specs.Evaluations.{AnswersEval}
 use Rattle.vc_top.specs.Inputs.{Input}
 use Rattle.vc_top.specs.Outcomes.{Answer, Outcome}
-use Rattle.vc_top.specs.Plans.{Plan, of_file, of_files, of_texts, unbuilt}
+use Rattle.vc_top.specs.Plans.{Plan, of_file, of_texts, unbuilt}
 use Rattle.vc_top.specs.Reasons.{usage}
 use Rattle.vc_top.specs.declared.plan.FileCommand.{FileCommand}
 use Rattle.vc_top.specs.declared.plan.FileCommand.TheVariants.{Cat, Eval}

@@ -1,9 +1,8 @@
 -- The weight sets that a text names.
-use Rattle.std.specs.Prelude.{ℕ, ℤ, Bool, ◌&&◌, true, false, List, Option, None, Some}
+use Rattle.std.specs.Prelude.{ℤ, Bool, ◌&&◌, true}
 use Rattle.std.specs.Bool.{beq}
 use Rattle.std.specs.Ordering.{int_eq}
 use Rattle.std.specs.Fmt.{signed_decimal}
-use Rattle.vc_aut.specs.Labelled.{Labelled}
 use Rattle.vc_basic.specs.Residues.{residues}
 use Rattle.vc_basic.specs.Tropical.{tropical, spelled_tropical, tropical_fits, tropical_text}
 use Rattle.vc_basic.specs.contracts.tropical.NminValuePartialEq.TheImpl.{ghosts as compared}
@@ -12,7 +11,6 @@ use Rattle.vc_basic.specs.Wholes.{wholes}
 use Rattle.vc_basic.specs.declared.tropical.NminValue.{NminValue}
 use Rattle.vc_context.specs.declared.context.Weights.{Weights}
 use Rattle.vc_context.specs.declared.context.Weights.TheVariants.{B, F2, Z, Q, Nmin}
-use Rattle.vc_model.specs.WeightSet.{WeightSet}
 use Rattle.vc_num.specs.Numerals.{spelled_whole, whole_fits}
 use Rattle.vc_rat.specs.Rationals.{rationals}
 use Rattle.vc_rat.specs.Texts.{spelled_fraction, fraction_fits, fraction_text}

@@ -3,7 +3,7 @@ use Rattle.vc_command.specs.Views.{asked}
 use Rattle.vc_top.specs.Plans.{plan_of}
 use Rattle.vc_top.specs.Seen.{seen}
 use Rattle.vc_top.specs.Views.{answer_of}
-use Rattle.vc_top.proofs.Planned.{file_answered, file_grows, texts_answered}
+use Rattle.vc_top.proofs.Planned.{file_answered, file_grows}
 use Rattle.vc_top.proofs.top.answer.Goals as goal
 
 pub returns-in-File-clause-faults : goal.returns-in-File-clause-faults
