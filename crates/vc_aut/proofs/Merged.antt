@@ -1,17 +1,14 @@
 -- Of transitions in order, those of equal triples are neighbours.
-use Rattle.std.proofs.Common.{◌≡◌, ◌∙◌, sym, ap, subst, refl, ℕ, zero, suc, ◌<◌, ◌≤◌, Bool, true, false, List, [], ◌∷◌, ◌++◌, length, map, get_or, cond, None, Some, Ok, Err, Less, Equal, Greater, arith, inl, inr}
-use Rattle.std.specs.Prelude.{◌↔◌, Result, not, ◌&&◌}
+use Rattle.std.proofs.Common.{◌≡◌, ◌∙◌, sym, ap, subst, refl, ◌<◌, ◌≤◌, true, false, List, [], ◌∷◌, ◌++◌, length, cond, None, Some, Ok, Err, Less, Equal, Greater, inl, inr}
+use Rattle.std.specs.Prelude.{◌↔◌, Result}
 use Rattle.std.specs.List.{filter}
-use Rattle.std.specs.List.Sorted.{IsSortedBy, IsStableBy, ties}
 use Rattle.std.specs.Ordering.{match_ordering, ordering_reverse, is_eq, is_lt}
-use Rattle.std.specs.Cmp.{IsTotalOrder, IsStrictWeakOrder}
+use Rattle.std.specs.Cmp.{IsTotalOrder}
 use Rattle.std.specs.declared.cmp.Ordering.{Ordering}
-use Rattle.std.proofs.lemmas.List.Sorted.{ranks_by, sorted_far}
 use Rattle.vc_label.specs.Order.{word_order}
 use Rattle.vc_model.specs.Automata.{Transition}
 use Rattle.vc_model.specs.Lists.{In}
 use Rattle.vc_model.specs.OutcomeLaws.{outcome-is}
-use Rattle.vc_model.specs.Outcomes as steps
 use Rattle.vc_model.specs.WeightSet.{WeightSet}
 use Rattle.vc_model.specs.Words.{Word}
 use Rattle.vc_ring.specs.Steps.{fits, AllFit, IsOutcome, outcome}

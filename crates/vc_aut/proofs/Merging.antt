@@ -1,12 +1,11 @@
 -- How neighbours of equal triples are added up, one transition after the other.
 use Rattle.std.proofs.Common.{◌≡◌, ◌∙◌, sym, ap, refl, ℕ, suc, ◌+◌, ◌<◌, ◌≤◌, Bool, true, false, List, [], ◌∷◌, ◌++◌, length, cond, Ok, Err, arith, append_assoc}
-use Rattle.std.specs.Prelude.{not, Result}
+use Rattle.std.specs.Prelude.{not}
 use Rattle.std.specs.List.{filter}
 use Rattle.std.specs.Ordering.{is_eq}
 use Rattle.vc_model.specs.Automata.{Transition}
 use Rattle.vc_model.specs.WeightSet.{WeightSet}
 use Rattle.vc_ring.specs.Steps.{outcome}
-use Rattle.vc_ring.specs.declared.faults.Overflow.{Overflow}
 use Rattle.vc_ring.specs.declared.faults.Overflow.TheVariants.{Add}
 use Rattle.vc_aut.specs.Drafts.{without_zeros}
 use Rattle.vc_aut.specs.Order.{triple_order}

@@ -1,5 +1,5 @@
 -- The sum of moves is an automaton.
-use Rattle.std.proofs.Common.{◌≡◌, refl, ℕ, ◌≤◌, true, List, [], ◌∷◌, ◌++◌, map, length, Some, Option, None, arith, IsTrue, All, inl, inr, ap, sym, ◌∙◌, subst}
+use Rattle.std.proofs.Common.{◌≡◌, refl, ℕ, ◌≤◌, true, List, [], ◌∷◌, map, length, Some, Option, None, arith, IsTrue, All, subst}
 use Rattle.std.specs.Prelude.{◌↔◌}
 use Rattle.std.specs.Cmp.{IsTotalOrder}
 use Rattle.std.specs.declared.cmp.Ordering.TheVariants.{Equal}
@@ -12,7 +12,7 @@ use Rattle.vc_model.specs.WeightSet.{WeightSet, RangeLaws, InRange}
 use Rattle.vc_model.specs.Words.{Word}
 use Rattle.vc_ring.specs.Steps.{AllFit, fits}
 use Rattle.vc_aut.specs.Additions.{addition_to, additions}
-use Rattle.vc_aut.specs.Drafts.{Draft, IsDraft}
+use Rattle.vc_aut.specs.Drafts.{IsDraft}
 use Rattle.vc_aut.specs.Stored.{automaton_of, transition_of}
 use Rattle.vc_aut.specs.declared.transition.Transition.{Transition as Stored}
 use Rattle.vc_aut.specs.Sums.{insert_transition, insert_all, standing}

@@ -1,10 +1,10 @@
-ghost use Rattle.std.specs.Prelude.{true, false, refl, [], ◌∷◌, ◌||◌, ◌&&◌, ◌==◌, None, Some, length, if◌then◌else◌};
+ghost use Rattle.std.specs.Prelude.{◌≡◌, true, false, refl, [], ◌∷◌, ◌||◌, ◌&&◌, ◌==◌, None, Some, length, if◌then◌else◌};
 ghost use Rattle.std.proofs.Common.{arith};
 ghost use Rattle.std.proofs.lemmas.List.Elements.{All-cons, All-nil};
 ghost use Rattle.vc_ring.specs.Texts.{IsWeightByte};
 ghost use Rattle.std.proofs.Math.Bool.{or_assoc, or_comm, or-false, and_assoc, and_comm, and-true, and-false, and-or_distrib_left};
 
-use crate::{Automaton, Builder};
+use crate::{Automaton, Builder, Transition};
 use std::alloc::{AllocError, Global};
 use std::test::Fail;
 use vc_label::{Alphabet, LabelFault, LabelSet, TapeKind, TapeSet, Word, WordBuf};
@@ -193,5 +193,44 @@ fn automaton_with_an_empty_label_is_handed_back(rt: HostRuntime) -> Result<(), F
     assert_eq!(rt; proper.automaton().states(), 1);
     assert_eq!(rt; proper.automaton().final_weight(0), true);
     assert_eq!(rt; proper.automaton().transitions_from(0).len(), 0);
+    Ok(())
+}
+
+/// A transition that reads the label without letters.
+fn silent_transition(from: u32, to: u32, weight: bool) -> Transition<Silent, Truth>
+    ensures { result ≡ record { from = from; label = tt; to = to; weight = weight } }
+{
+    Transition {
+        from,
+        label: (),
+        to,
+        weight,
+    }
+}
+
+#[test]
+fn transitions_of_a_list_are_added_up(rt: HostRuntime) -> Result<(), Fail> {
+    let set = TapeSet {
+        kind: TapeKind::Words,
+        alphabet: Alphabet::new(),
+    };
+    let mut initial = Vec::new(rt.alloc());
+    initial.push(true)?;
+    initial.push(false)?;
+    let mut last = Vec::new(rt.alloc());
+    last.push(false)?;
+    last.push(true)?;
+    let mut list = Vec::new(rt.alloc());
+    list.push(silent_transition(1, 0, true))?;
+    list.push(silent_transition(0, 1, true))?;
+    list.push(silent_transition(0, 0, false))?;
+    list.push(silent_transition(0, 1, false))?;
+    let aut = Automaton::from_transitions(rt.alloc(), Silent { set }, initial, last, list)?;
+    let rows = [(0, 1, true), (1, 0, true)];
+    for (from, to, weight) in rows {
+        let transitions = aut.transitions_from(from);
+        assert_eq!(rt; transitions.len(), 1);
+        assert_eq!(rt; (transitions[0].to, transitions[0].weight), (to, weight));
+    }
     Ok(())
 }

@@ -1,10 +1,8 @@
-use Rattle.std.proofs.Common.{rules, ◌≡◌, [], map, sym, subst, IsTrue, List}
+use Rattle.std.proofs.Common.{rules, ◌≡◌, map, sym, subst, IsTrue}
 use Rattle.std.specs.Prelude.{IfOk}
-use Rattle.std.specs.List.{filter}
 use Rattle.std.specs.List.Sorted.{IsStableBy, IsSortedBy}
 use Rattle.std.specs.Cmp.{IsTotalOrder}
 use Rattle.std.proofs.lemmas.List.Sorted.{answers_always, All-permutation}
-use Rattle.vc_model.specs.Automata.{Transition}
 use Rattle.vc_aut.specs.Drafts.{without_zeros}
 use Rattle.vc_aut.specs.Order.{triple_order}
 use Rattle.vc_aut.specs.Stored.{transition_of}

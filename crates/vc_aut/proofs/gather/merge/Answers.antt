@@ -1,11 +1,11 @@
-use Rattle.std.proofs.Common.{rules, ◌≡◌, ◌∷◌, ◌++◌, [], ◌≤◌, ◌<◌, map, sym, ap, ◌∙◌, subst, refl, true, false, All, IsTrue, arith, List}
+use Rattle.std.proofs.Common.{rules, ◌≡◌, ◌∷◌, ◌++◌, [], ◌≤◌, ◌<◌, map, sym, subst, refl, true, false, All, IsTrue, List}
 use Rattle.std.specs.Ordering.{is_eq}
 use Rattle.std.proofs.lemmas.List.Elements.{All-head, All-tail}
 use Rattle.vc_aut.specs.Drafts.{without_zeros}
 use Rattle.vc_aut.specs.Order.{triple_order}
 use Rattle.vc_aut.specs.Stored.{transition_of}
 use Rattle.vc_aut.specs.declared.transition.Transition.{Transition as Stored}
-use Rattle.vc_aut.proofs.Merging.{IsMerging, merging_start, merging_same, merging_unfit, merging_next, merging_full, merging_end}
+use Rattle.vc_aut.proofs.Merging.{IsMerging, merging_start, merging_same, merging_unfit, merging_next, merging_full}
 use Rattle.vc_aut.proofs.Refusals.{added_ok, added_err}
 use Rattle.vc_aut.proofs.gather.merge.Goals as goal
 
