@@ -80,7 +80,7 @@ at-failure by old new i d r e at h came failed =
       fit = subst (AllFit rationals) (sym (take-map (λ x. Mul x by) i old)) at.fit;
       unfit = λ p. product-err (holds (times (get_or new i d) by)) (times (get_or new i d) by) (Mul (get_or new i d) by) e (sym came ∙ failed)
           (subst (λ x. holds (times x by) ≡ true) (sym kept) (fits-last by (take i old) (get_or old i d)
-              (subst (λ l. AllFit rationals (product_steps by l)) (take_more old i d h) (subst (AllFit rationals) (take-map (λ x. Mul x by) (i + 1) old) p))));
+          (subst (λ l. AllFit rationals (product_steps by l)) (take_more old i d h) (subst (AllFit rationals) (take-map (λ x. Mul x by) (i + 1) old) p))));
       front = ap (take i) same ∙ at.front ∙ sym (take-map (λ x. times x by) i old);
       rest = ap (drop i) same ∙ at.rest;
     }
