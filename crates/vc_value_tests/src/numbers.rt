@@ -1,5 +1,7 @@
-use crate::{DecimalFault, checked_add, checked_mul, checked_sub, gcd, read_decimal};
+//! Tests of `vc_num`: whole numbers and their decimal texts.
+
 use std::test::Fail;
+use vc_num::{DecimalFault, checked_add, checked_mul, checked_sub, gcd, read_decimal};
 
 #[test]
 fn whole_numbers(rt: HostRuntime) -> Result<(), Fail> {

@@ -1,4 +1,6 @@
-use crate::{Letters, Nullable, Words};
+//! Tests of `vc_atoms`: label sets of one tape.
+
+use vc_atoms::{Letters, Nullable, Words};
 use vc_label::{Alphabet, LabelFault, LabelSet, Word, WordBuf};
 
 fn a_to_c() -> Alphabet {

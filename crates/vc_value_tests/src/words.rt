@@ -1,5 +1,7 @@
-use crate::{Alphabet, Word, WordBuf};
+//! Tests of `vc_label`: alphabets and words.
+
 use std::alloc::AllocError;
+use vc_label::{Alphabet, Word, WordBuf};
 
 #[test]
 fn alphabets_have_their_letters(rt: HostRuntime) {

@@ -1,5 +1,7 @@
-use crate::Tuple;
+//! Tests of `vc_tuple`: label sets of several tapes.
+
 use vc_label::{Alphabet, LabelFault, LabelSet, TapeKind, TapeSet, Word, WordBuf};
+use vc_tuple::Tuple;
 
 fn set(kind: TapeKind) -> TapeSet {
     TapeSet {

@@ -1,5 +1,7 @@
-use crate::{Fraction, Q};
+//! Tests of `vc_rat`: rational numbers as weights.
+
 use std::test::Fail;
+use vc_rat::{Fraction, Q};
 use vc_ring::{Field, NumberFault, Overflow, Semiring, Split, StarFault};
 
 #[test]

@@ -1,5 +1,7 @@
-use crate::{B, F2, Nmin, NminValue, Z};
+//! Tests of `vc_basic`: truth values, residues, whole numbers and costs as weights.
+
 use std::test::Fail;
+use vc_basic::{B, F2, Nmin, NminValue, Z};
 use vc_ring::{Field, NumberFault, Overflow, Semiring, Split, StarFault, sum};
 
 #[test]
