@@ -18,6 +18,3 @@ pub use laws::{
 };
 pub use proper::Proper;
 pub use transition::Transition;
-
-#[cfg(test)]
-mod tests;

@@ -1,13 +1,15 @@
+//! Tests of `vc_eval`: coefficients at words.
+
 ghost use Rattle.std.specs.Prelude.{◌≡◌, ◌<◌, IfOk, IsTrue, OnOk, length};
 ghost use Rattle.vc_label.specs.Letters.{are_letters};
 ghost use Rattle.vc_model.specs.Letters.{HasLetters};
 
-use crate::{Evaluator, letters_are_labels};
 use std::alloc::Global;
 use std::test::Fail;
 use vc_atoms::Letters;
 use vc_aut::{Automaton, Builder};
 use vc_basic::{B, Z};
+use vc_eval::{Evaluator, letters_are_labels};
 use vc_label::{Alphabet, LabelSet, Word};
 use vc_ring::{Overflow, Semiring};
 

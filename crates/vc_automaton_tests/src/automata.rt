@@ -1,12 +1,14 @@
+//! Tests of `vc_aut`: builders, automata from lists, proper automata.
+
 ghost use Rattle.std.specs.Prelude.{◌≡◌, true, false, refl, [], ◌∷◌, ◌||◌, ◌&&◌, ◌==◌, None, Some, length, if◌then◌else◌};
 ghost use Rattle.std.proofs.Common.{arith};
 ghost use Rattle.std.proofs.lemmas.List.Elements.{All-cons, All-nil};
 ghost use Rattle.vc_ring.specs.Texts.{IsWeightByte};
 ghost use Rattle.std.proofs.Math.Bool.{or_assoc, or_comm, or-false, and_assoc, and_comm, and-true, and-false, and-or_distrib_left};
 
-use crate::{Automaton, Builder, Transition};
 use std::alloc::{AllocError, Global};
 use std::test::Fail;
+use vc_aut::{Automaton, Builder, Transition};
 use vc_label::{Alphabet, LabelFault, LabelSet, TapeKind, TapeSet, Word, WordBuf};
 use vc_ring::{Limit, MakeFault, Measure, NumberFault, Overflow, Semiring, StarFault};
 

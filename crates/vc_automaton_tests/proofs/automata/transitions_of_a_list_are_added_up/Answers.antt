@@ -6,7 +6,7 @@ use Rattle.vc_label.specs.Sets.{IsOverSets}
 use Rattle.vc_model.specs.Automata.{Transition}
 use Rattle.vc_model.specs.WeightSet.{WeightSet}
 use Rattle.vc_aut.specs.Validity.{IsMove}
-use Rattle.vc_aut.proofs.tests.transitions_of_a_list_are_added_up.Goals as goal
+use Rattle.vc_automaton_tests.proofs.automata.transitions_of_a_list_are_added_up.Goals as goal
 
 abbrev listed : List (Transition Bool)
 listed = record { from = 1; label = [] ∷ []; to = 0; weight = true } ∷ record { from = 0; label = [] ∷ []; to = 1; weight = true } ∷ record { from = 0; label = [] ∷ []; to = 0; weight = false } ∷ record { from = 0; label = [] ∷ []; to = 1; weight = false } ∷ []
