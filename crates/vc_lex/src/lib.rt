@@ -11,6 +11,3 @@ pub use laws::tokens_follow_the_grammar;
 pub use lexer::Lexer;
 pub use token::{BadByte, Mode, Token, TokenKind};
 pub use vc_text::{LetterAt, letter_at};
-
-#[cfg(test)]
-mod tests;

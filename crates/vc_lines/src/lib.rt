@@ -18,6 +18,3 @@ pub use law::{context_lines_have_one_text, lines_have_their_tokens};
 pub use line::{Entry, Line, class_body, cut_entry, entry_of, inside, is_class, line_of, name_of};
 pub use lines::cut_line;
 pub use tokens::cut_tokens;
-
-#[cfg(test)]
-mod tests;

@@ -6,8 +6,6 @@ mod classes;
 mod growing;
 mod laws;
 mod letters;
-#[cfg(test)]
-mod tests;
 
 pub use blanks::{after_blanks, is_blank};
 pub use classes::class_letters;

@@ -1,6 +1,8 @@
-use crate::{HeadFault, daut_context};
+//! Tests of `vc_lines`: context lines.
+
 use std::test::Fail;
 use vc_context::{AnyLabels, Weights};
+use vc_lines::{HeadFault, daut_context};
 
 #[test]
 fn context_lines_are_read(rt: HostRuntime) -> Result<(), Fail> {

@@ -1,6 +1,8 @@
-use super::*;
+//! Tests of `vc_text`: letters, blanks, classes and texts that grow.
+
 use std::alloc::AllocError;
 use vc_label::Alphabet;
+use vc_text::{after_blanks, class_letters, letter_at, push_letter, push_number, push_text};
 
 #[test]
 fn letters_are_read_and_written(rt: HostRuntime) -> Result<(), AllocError> {

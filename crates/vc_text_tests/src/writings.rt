@@ -1,8 +1,10 @@
-use crate::{read_daut, write_daut};
+//! Tests of `vc_daut`: canonical texts.
+
 use std::test::Fail;
 use vc_atoms::{Letters, Words};
 use vc_basic::{B, Z};
 use vc_context::{AnyContext, AnyLabels, Weights, labels_have_tapes};
+use vc_daut::{read_daut, write_daut};
 use vc_label::Alphabet;
 
 // The canonical text of the automaton that the file spells.

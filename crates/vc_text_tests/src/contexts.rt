@@ -1,5 +1,7 @@
-use super::*;
+//! Tests of `vc_context`: the texts of contexts.
+
 use std::test::Fail;
+use vc_context::{read_context, write_context};
 
 // The canonical text of the context that the text spells, or none.
 fn canonical(rt: &HostRuntime, text: &[u8]) -> Result<Option<String>, Fail> {

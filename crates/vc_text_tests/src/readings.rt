@@ -1,8 +1,10 @@
-use crate::{DautFault, read_daut};
+//! Tests of `vc_reader`: daut files that are read.
+
 use std::test::Fail;
 use vc_atoms::Letters;
 use vc_basic::Z;
 use vc_label::Alphabet;
+use vc_reader::{DautFault, read_daut};
 
 #[test]
 fn states_are_numbered_by_their_names(rt: HostRuntime) -> Result<(), Fail> {

@@ -1,5 +1,7 @@
-use super::*;
+//! Tests of `vc_lex`: expressions and lines, cut into tokens.
+
 use std::test::Fail;
+use vc_lex::{BadByte, Lexer, Mode, TokenKind};
 
 #[test]
 fn expressions_are_cut_into_tokens(rt: HostRuntime) -> Result<(), Fail> {
