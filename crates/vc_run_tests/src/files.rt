@@ -1,8 +1,10 @@
-use crate::real::take_bytes;
-use crate::{Files, MemFile, MemFiles, MemSink, ReadFault, RealFiles, RealSink, Sink};
-use std::fs;
-use std::io::{self, ErrorKind, Read, Write};
+//! Tests of `vc_files`: files and sinks in memory, real ones, and ends that fail.
+
+use std::alloc::Allocator;
+use std::fs::{self, Metadata, OpenFile, OpenOptions};
+use std::io::{self, ErrorKind, Read, Seek, SeekFrom, Write};
 use std::test::Fail;
+use vc_files::{Files, MemFile, MemFiles, MemSink, ReadFault, RealFiles, RealSink, Sink};
 
 /// The bytes of an answer, or its fault in words.
 fn answer(read: &Result<Vec<u8>, ReadFault>) -> Result<&[u8], &'static str> {
@@ -59,18 +61,23 @@ fn memory_takes_what_fits(rt: HostRuntime) -> Result<(), Fail> {
     Ok(())
 }
 
-/// A reader that gives so many letters, one at a time, and then fails.
+/// A file that gives so many letters, one at a time, and then ends or fails. Nothing else can be done with it.
 #[derive(Drop)]
-struct Failing {
+struct Trickle {
     left: u64,
+    ends: bool,
 }
 
-impl Read for Failing {
+fn refused<T>() -> io::Result<T> {
+    Err(ErrorKind::Unsupported.into())
+}
+
+impl Read for Trickle {
     fn read(&mut self, piece: &mut [u8]) -> io::Result<usize> {
-        if self.left == 0 {
+        if self.left == 0 && !self.ends {
             return Err(ErrorKind::Other.into());
         }
-        if piece.is_empty() {
+        if self.left == 0 || piece.is_empty() {
             return Ok(0);
         }
         self.left -= 1;
@@ -79,19 +86,110 @@ impl Read for Failing {
     }
 }
 
+impl Write for Trickle {
+    fn write(&mut self, _piece: &[u8]) -> io::Result<usize> {
+        refused()
+    }
+
+    fn flush(&mut self) -> io::Result<()> {
+        refused()
+    }
+}
+
+impl Seek for Trickle {
+    fn seek(&mut self, _to: SeekFrom) -> io::Result<u64> {
+        refused()
+    }
+}
+
+impl OpenFile for Trickle {
+    fn metadata(&self) -> io::Result<Metadata> {
+        refused()
+    }
+
+    fn set_len(&self, _size: u64) -> io::Result<()> {
+        refused()
+    }
+
+    fn sync_all(&self) -> io::Result<()> {
+        refused()
+    }
+
+    fn sync_data(&self) -> io::Result<()> {
+        refused()
+    }
+}
+
+/// A system in which each file has three letters, after which reading ends or fails.
+#[derive(Drop)]
+struct ThreeLetters {
+    ends: bool,
+}
+
+impl std::rt::Files for ThreeLetters {
+    type File = Trickle;
+
+    type Dir = Trickle;
+
+    fn open_file(&self, _how: &OpenOptions, _path: &str) -> io::Result<Trickle> {
+        Ok(Trickle {
+            left: 3,
+            ends: self.ends,
+        })
+    }
+
+    fn open_dir(&self, _path: &str) -> io::Result<Trickle> {
+        refused()
+    }
+
+    fn metadata(&self, _path: &str) -> io::Result<Metadata> {
+        refused()
+    }
+
+    fn symlink_metadata(&self, _path: &str) -> io::Result<Metadata> {
+        refused()
+    }
+
+    fn copy(&self, _from: &str, _to: &str) -> io::Result<u64> {
+        refused()
+    }
+
+    fn rename(&self, _from: &str, _to: &str) -> io::Result<()> {
+        refused()
+    }
+
+    fn remove_file(&self, _path: &str) -> io::Result<()> {
+        refused()
+    }
+
+    fn create_dir(&self, _path: &str) -> io::Result<()> {
+        refused()
+    }
+
+    fn remove_dir(&self, _path: &str) -> io::Result<()> {
+        refused()
+    }
+
+    fn remove_dir_all<B: Allocator>(&self, _alloc: B, _path: &str) -> io::Result<()> {
+        refused()
+    }
+}
+
+// A read behind the last byte that may be taken would fail here, where a file is too long.
 #[test]
-fn a_reader_that_fails_gives_no_shorter_file(rt: HostRuntime) -> Result<(), Fail> {
-    for (most, wanted, left) in [
-        (0, Some(""), 3u64),
-        (2, Some("aa"), 1),
-        (3, Some("aaa"), 0),
-        (4, None, 0),
+fn a_file_that_fails_in_the_middle_is_no_shorter_file(rt: HostRuntime) -> Result<(), Fail> {
+    for (ends, most, wanted) in [
+        (true, 3, Ok("aaa".as_bytes())),
+        (true, u64::MAX, Ok("aaa".as_bytes())),
+        (true, 2, Err("three bytes and more")),
+        (false, 2, Err("three bytes and more")),
+        (false, 3, Err("failed")),
+        (false, u64::MAX, Err("failed")),
     ] {
-        let mut reader = Failing { left: 3 };
-        let read = take_bytes(rt.alloc(), &mut reader, most);
-        let got = read.as_ref().ok().map(|bytes| bytes.as_slice());
-        assert_eq!(rt; got, wanted.map(|text| text.as_bytes()), "{most}");
-        assert_eq!(rt; reader.left, left, "{most}");
+        let system = ThreeLetters { ends };
+        let mut files = RealFiles::new(rt.alloc(), &system);
+        let read = files.read_all("any", most);
+        assert_eq!(rt; answer(&read), wanted, "at most {most}");
     }
     Ok(())
 }

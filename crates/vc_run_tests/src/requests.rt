@@ -1,6 +1,8 @@
-use crate::{RequestFault, request_of};
+//! Tests of `vc_command`: words and their requests.
+
 use std::alloc::{AllocError, Global};
 use std::test::Fail;
+use vc_command::{RequestFault, request_of};
 
 // The words that stand between bars in the text.
 fn words(alloc: Global, text: &str) -> Result<Vec<String>, AllocError> {
