@@ -97,7 +97,7 @@ module _ {V : Type 0} (T : WeightTexts V) where
       IsSound (Err (fault.Limit l)) = Unit {0}
       IsSound (Err (fault.Memory e)) = ⊥
 
-      sound_lines : (x : Result (Labelled V) (DautFault V)) → IsSound x → Read x → bad_line T.spelled (h.number + 1) h.behind ≡ None
+      sound_lines : (x : Result (Labelled V) (DautFault V)) → IsSound x → Read x → bad_line T.spelled (h.number + 1) h.after ≡ None
       sound_lines (Ok a) s r = r.are_lines
       sound_lines (Err (fault.Syntax line)) s r = absurd s
       sound_lines (Err (fault.NotALabel line from to)) s r = absurd s
@@ -117,7 +117,7 @@ module _ {V : Type 0} (T : WeightTexts V) where
       has_memory (Err (fault.Memory e)) s m = s
 
       no_bad : (x : Result (Labelled V) (DautFault V)) → IsSound x → Read x → (line : ℕ) → ¬ IsBadLine T h line
-      no_bad x s r line b = none_some (bad_line T.spelled (h.number + 1) h.behind) (sound_lines x s r) b
+      no_bad x s r line b = none_some (bad_line T.spelled (h.number + 1) h.after) (sound_lines x s r) b
         where
           none_some : (o : Option ℕ) → o ≡ None → o ≡ Some line → ⊥
           none_some o e f = cc (sym e ∙ f)
@@ -126,14 +126,14 @@ module _ {V : Type 0} (T : WeightTexts V) where
       no_first x s r p f =
           alone x (Err (fault.NotALabel p.0 p.1.0 p.1.1)) (has_memory x s) (λ m. m) (λ b. b.1) (λ e. subst IsSound e s) r (sound_lines x s r, f)
 
-      -- behind the first two refusals
-      behind : (x : Result (Labelled V) (DautFault V)) → IsSound x → Read x → (a : Result (Labelled V) Reason)
+      -- after the first two refusals
+      after : (x : Result (Labelled V) (DautFault V)) → IsSound x → Read x → (a : Result (Labelled V) Reason)
           → UnlessAny (IsUnfit T sets h) (λ reason. reason) (ForSuch (SpellsLines T sets h) (λ A. Gives (over sets A))) a → ReadsLines T file sets h a
-      behind x s r a q = inr (no_bad x s r, inr (no_first x s r, q))
+      after x s r a q = inr (no_bad x s r, inr (no_first x s r, q))
 
       -- a refusal of what is in the grammar
       unfit : (x : Result (Labelled V) (DautFault V)) → IsSound x → Read x → (reason : Reason) → IsUnfit T sets h reason → OrMemory (ReadsLines T file sets h) (Err reason)
-      unfit x s r reason u = inr (behind x s r (Err reason) (inl (reason, u, refl)))
+      unfit x s r reason u = inr (after x s r (Err reason) (inl (reason, u, refl)))
 
       no_unfit_file : (a : Labelled V) → Read (Ok a) → (reason : Reason) → ¬ IsUnfit T sets h reason
       no_unfit_file a r reason u = go u
@@ -148,7 +148,7 @@ module _ {V : Type 0} (T : WeightTexts V) where
           go (inr (inr (e, (n, q)))) = past (fault.Limit transitions_limit) (λ m. m) q
 
       pub automaton_read : (x : Labelled V) → Read (Ok x) → SpellsLines T sets h x.automaton → x.sets ≡ sets → ReadsLines T file sets h (Ok x)
-      automaton_read x r l e = behind (Ok x) tt r (Ok x) (inr (no_unfit_file x r, (x.automaton, l, ap (λ s. Ok (over s x.automaton)) e)))
+      automaton_read x r l e = after (Ok x) tt r (Ok x) (inr (no_unfit_file x r, (x.automaton, l, ap (λ s. Ok (over s x.automaton)) e)))
 
       limit_read : (l : PastLimit) → Read (Err (fault.Limit l)) → IsPastLimit T sets h l → OrMemory (ReadsLines T file sets h) (Err (limit (Of l.what)))
       limit_read l r (inl p) = subst (λ (m : PastLimit). OrMemory (ReadsLines T file sets h) (Err (limit (Of m.what)))) (sym p.0) (unfit (Err (fault.Limit l)) tt r (limit (Of States)) (inr (inl (refl, p.1))))
@@ -164,7 +164,7 @@ module _ {V : Type 0} (T : WeightTexts V) where
       fault_read (fault.Syntax line) r = inr (inl (line, r, refl))
       fault_read (fault.NotALabel line from to) r = inr (inr (no_line r.0, inl ((line, (from, to)), r.1, refl)))
         where
-          no_line : bad_line T.spelled (h.number + 1) h.behind ≡ None → (n : ℕ) → ¬ IsBadLine T h n
+          no_line : bad_line T.spelled (h.number + 1) h.after ≡ None → (n : ℕ) → ¬ IsBadLine T h n
           no_line e n b = cc (sym e ∙ b)
       fault_read (fault.Overflow line (Numeral at)) r = unfit (Err (fault.Overflow line (Numeral at))) tt r overflow (inl (refl, inl (line, at, r.1)))
       fault_read (fault.Overflow line (Add v w)) r = unfit (Err (fault.Overflow line (Add v w))) tt r overflow (inl (refl, inr (line, v, w, added line v w r.1, r)))
