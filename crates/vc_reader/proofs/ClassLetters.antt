@@ -54,11 +54,10 @@ letter_over s x h = ((kind s.kind, All-cons (λ y. has_letter s.alphabet y ≡ t
     kind Words = tt
 
 -- a letter of a class is a label
-pub class_over : (sets : List TapeSet) (body : List ℕ) (s : TapeSet) (k : Alphabet) (x : ℕ) → ((a : Alphabet) (y : ℕ) → In y (letters_of a) ↔ (has_letter a y ≡ true))
-    → IsClassOver sets body → slice_get sets 0 ≡ Some s → IsClassOf s.alphabet body (Some k) → has_letter k x ≡ true → IsOverSets sets ((x ∷ []) ∷ [])
-class_over [] body s k x listed c e h p = absurd c
-class_over (t ∷ []) body s k x listed c e h p =
-    let i : In x (class_letters s.alphabet body) = subst (In x) h.1 ((listed k x).1 p) in
-    let j : has_letter s.alphabet x ≡ true = (listed s.alphabet x).0 (in_filter (has_in_class body) (letters_of s.alphabet) x i) in
+pub class_over : (sets : List TapeSet) (body : List ℕ) (s : TapeSet) (k : Alphabet) → ((a : Alphabet) (y : ℕ) → In y (letters_of a) ↔ (has_letter a y ≡ true))
+    → IsClassOver sets body → slice_get sets 0 ≡ Some s → IsClassOf s.alphabet body (Some k) → (x : ℕ) → In x (letters_of k) → IsOverSets sets ((x ∷ []) ∷ [])
+class_over [] body s k listed c e h x i = absurd c
+class_over (t ∷ []) body s k listed c e h x i =
+    let j : has_letter s.alphabet x ≡ true = (listed s.alphabet x).0 (in_filter (has_in_class body) (letters_of s.alphabet) x (subst (In x) h.1 i)) in
     letter_over t x (subst (λ (u : TapeSet). has_letter u.alphabet x ≡ true) (sym (one_set t s [] e)) j)
-class_over (t ∷ u ∷ ts) body s k x listed c e h p = absurd c
+class_over (t ∷ u ∷ ts) body s k listed c e h x i = absurd c

@@ -21,6 +21,7 @@ use Rattle.vc_model.specs.Members.{In-flat_map, In-flat_map_from, In-map, In-mid
 use Rattle.vc_model.specs.WeightSet.{WeightSet, RangeLaws, SemiringLaws}
 use Rattle.vc_model.specs.Words.{Word}
 use Rattle.vc_ring.specs.Texts.{TextLaws, WeightTexts}
+use Rattle.vc_ring.specs.declared.faults.MakeFault.{MakeFault}
 use Rattle.vc_ring.specs.declared.faults.MakeFault.TheVariants.{Overflow as Unfit, Limit as PastLimit}
 use Rattle.vc_ring.specs.declared.faults.Measure.TheVariants.{Transitions}
 use Rattle.vc_ring.specs.declared.faults.Overflow.TheVariants.{Add}
@@ -155,6 +156,9 @@ module _ {V : Type 0} (R : WeightSet V) (spelled : List ℕ → Option V) (fit :
         let k = no_more (map triple (insert_transition R ts t)) ds (once_in_order equal (insert_transition R ts t) (order ts t o)) (λ d i. f d ((triples ts t d).0 i)) in
         omega (arith, l, k)
 
+    abbrev full_limit : Option (MakeFault V)
+    full_limit = Some (PastLimit (record { what = Transitions; most = 4000000 }))
+
     taken_count : (ts : List (Transition V)) (t : Transition V) (o : Option V) → standing ts t ≡ o → AreInOrder ts → length ts ≤ 4000000 → weight_refusal R (length ts) t.weight o ≡ None → length (insert_transition R ts t) ≤ 4000000
     taken_count ts t (Some u) e o few h =
         let i : In (triple t) (map triple ts) = In-map triple (record t { weight = u }) ts ((stands ts t u o).0 e) in
@@ -163,7 +167,7 @@ module _ {V : Type 0} (R : WeightSet V) (spelled : List ℕ → Option V) (fit :
         omega (arith, few, l, k)
     taken_count ts t None e o few h = go (nat_lt (length ts) 4000000) refl h
       where
-        go : (b : Bool) → nat_lt (length ts) 4000000 ≡ b → (if b then None else Some (PastLimit (record { what = Transitions; most = 4000000 }))) ≡ None → length (insert_transition R ts t) ≤ 4000000
+        go : (b : Bool) → nat_lt (length ts) 4000000 ≡ b → (if b then None else full_limit) ≡ None → length (insert_transition R ts t) ≤ 4000000
         go true f h =
             let less = ltb-true (length ts) 4000000 f in
             let l = length-map ts triple in

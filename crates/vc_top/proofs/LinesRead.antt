@@ -77,7 +77,9 @@ module _ {V : Type 0} (T : WeightTexts V) where
     module _
         (apart : (x y : Result (Labelled V) (DautFault V)) → Read x → Read y → IsSameReading x y)
         (added : (line : ℕ) (v w : V) → answer.IsUnfit T sets h line (make.Overflow (Add v w)) → IsUnfitAddition T sets h line v w)
-        (counted : (most : ℕ) → IsPastLimit T sets h (record { what = Transitions; most = most }) → (most ≡ 4000000) × HasManyTriples T sets h) where
+        (counted : (most : ℕ) → IsPastLimit T sets h (record { what = Transitions; most = most }) → (most ≡ 4000000) × HasManyTriples T sets h)
+        (fits : (a : Labelled V) (line : ℕ) (v w : V) → answer.IsBuilt T sets h a → IsUnfitAddition T sets h line v w → ⊥)
+        (few : (a : Labelled V) → answer.IsBuilt T sets h a → HasManyTriples T sets h → ⊥) where
       -- an answer that is no want of memory and nothing past bounds excludes each other one
       alone : (x y : Result (Labelled V) (DautFault V)) → ¬ IsWantOfMemory x → ¬ IsWantOfMemory y → ¬ (IsPastBounds x × IsPastBounds y) → ¬ (x ≡ y) → Read x → Read y → ⊥
       alone x y mx my p d rx ry = go (apart x y rx ry)
@@ -143,16 +145,16 @@ module _ {V : Type 0} (T : WeightTexts V) where
 
           go : IsUnfit T sets h reason → ⊥
           go (inl (e, inl (line, at, n))) = past (fault.Overflow line (Numeral at)) (λ m. m) ((r.are_lines, r.over), n)
-          go (inl (e, inr (line, v, w, n, q))) = past (fault.Overflow line (Add v w)) (λ m. m) q
+          go (inl (e, inr (line, v, w, n))) = fits a line v w r n
           go (inr (inl (e, n))) = past (fault.Limit states_limit) (λ m. m) ((r.are_lines, r.over), inl (refl, n))
-          go (inr (inr (e, (n, q)))) = past (fault.Limit transitions_limit) (λ m. m) q
+          go (inr (inr (e, n))) = few a r n
 
       pub automaton_read : (x : Labelled V) → Read (Ok x) → SpellsLines T sets h x.automaton → x.sets ≡ sets → ReadsLines T file sets h (Ok x)
       automaton_read x r l e = after (Ok x) tt r (Ok x) (inr (no_unfit_file x r, (x.automaton, l, ap (λ s. Ok (over s x.automaton)) e)))
 
       limit_read : (l : PastLimit) → Read (Err (fault.Limit l)) → IsPastLimit T sets h l → OrMemory (ReadsLines T file sets h) (Err (limit (Of l.what)))
       limit_read l r (inl p) = subst (λ (m : PastLimit). OrMemory (ReadsLines T file sets h) (Err (limit (Of m.what)))) (sym p.0) (unfit (Err (fault.Limit l)) tt r (limit (Of States)) (inr (inl (refl, p.1))))
-      limit_read l r (inr (names, n, q)) = subst (λ (m : PastLimit). OrMemory (ReadsLines T file sets h) (Err (limit (Of m.what)))) (sym e) (unfit (Err (fault.Limit transitions_limit)) tt at (limit (Of Transitions)) (inr (inr (refl, ((counted 4000000 at.1).1, at)))))
+      limit_read l r (inr (names, n, q)) = subst (λ (m : PastLimit). OrMemory (ReadsLines T file sets h) (Err (limit (Of m.what)))) (sym e) (unfit (Err (fault.Limit transitions_limit)) tt at (limit (Of Transitions)) (inr (inr (refl, (counted 4000000 at.1).1))))
         where
           e : l ≡ transitions_limit
           e = refused_limit T.set _ _ l q
@@ -167,7 +169,7 @@ module _ {V : Type 0} (T : WeightTexts V) where
           no_line : bad_line T.spelled (h.number + 1) h.after ≡ None → (n : ℕ) → ¬ IsBadLine T h n
           no_line e n b = cc (sym e ∙ b)
       fault_read (fault.Overflow line (Numeral at)) r = unfit (Err (fault.Overflow line (Numeral at))) tt r overflow (inl (refl, inl (line, at, r.1)))
-      fault_read (fault.Overflow line (Add v w)) r = unfit (Err (fault.Overflow line (Add v w))) tt r overflow (inl (refl, inr (line, v, w, added line v w r.1, r)))
+      fault_read (fault.Overflow line (Add v w)) r = unfit (Err (fault.Overflow line (Add v w))) tt r overflow (inl (refl, inr (line, v, w, added line v w r.1)))
       fault_read (fault.Overflow line (Mul v w)) r = absurd r
       fault_read (fault.Overflow line (Star v)) r = absurd r
       fault_read (fault.Limit l) r = limit_read l r r.1

@@ -13,12 +13,10 @@ use Rattle.vc_lines.specs.Names.{line_names, with_names}
 use Rattle.vc_reader.specs.Passes.{IsNumeralAt}
 use Rattle.vc_reader.specs.Spelling.{Spells, bad_line, lines_in, IsFirstLabel}
 use Rattle.vc_reader.specs.declared.fault.DautFault.{DautFault}
-use Rattle.vc_reader.specs.declared.fault.DautFault.TheVariants.{Overflow, Limit}
 use Rattle.vc_files.specs.Files.{Bytes}
 use Rattle.vc_label.specs.declared.tape_set.TapeSet.{TapeSet}
 use Rattle.vc_model.specs.Automata.{Automaton}
 use Rattle.vc_ring.specs.declared.faults.Measure.TheVariants.{States, Transitions, Bytes as BytesOf}
-use Rattle.vc_ring.specs.declared.faults.Overflow.TheVariants.{Add}
 use Rattle.vc_ring.specs.Texts.{WeightTexts}
 use Rattle.vc_top.specs.Outcomes.{ForSuch, Gives, Outcome, Then, Unless, UnlessAny, WithOne}
 use Rattle.vc_top.specs.Reasons.{Reason, in_line, syntax, no_label, overflow, limit, unread}
@@ -69,17 +67,17 @@ module _ {V : Type 0} (T : WeightTexts V) where
   abbrev pub HasNumeral : HeadLine → Type 0
   HasNumeral h = (line at : ℕ) × IsNumeralAt T.set T.spelled T.numbers_fit (h.number + 1) (lines_in T.spelled h.after) line at
 
-  -- a line adds a weight to the sum of those before it, of the same state, or of the same source, label and target, and this sum does not fit; reading stops there
+  -- a line adds a weight to the sum of those before it, of the same state, or of the same source, label and target, and this sum does not fit
   abbrev pub HasUnfitAddition : List TapeSet → HeadLine → Type 0
-  HasUnfitAddition sets h = (line : ℕ) × (v w : V) × IsUnfitAddition T sets h line v w × IsReading sets h (Err (Overflow line (Add v w)))
+  HasUnfitAddition sets h = (line : ℕ) × (v w : V) × IsUnfitAddition T sets h line v w
 
   -- the lines name more than 1,000,000 states
   abbrev pub HasManyStates : HeadLine → Type 0
   HasManyStates h = 1000000 < length (with_names [] (flat_map line_names (lines_in T.spelled h.after)))
 
-  -- the lines have transitions of more than 4,000,000 sources, labels and targets, and reading stops there
+  -- the lines have transitions of more than 4,000,000 sources, labels and targets
   abbrev pub HasManyTransitions : List TapeSet → HeadLine → Type 0
-  HasManyTransitions sets h = HasManyTriples T sets h × IsReading sets h (Err (Limit (record { what = Transitions; most = 4000000 })))
+  HasManyTransitions sets h = HasManyTriples T sets h
 
   -- a reason to refuse lines that are in the grammar and whose labels are in the label sets
   abbrev pub IsUnfit : List TapeSet → HeadLine → Reason → Type 0
