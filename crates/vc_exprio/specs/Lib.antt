@@ -1,0 +1,3 @@
+pub mod Words
+pub mod WordParts
+pub mod WordAnswers
