@@ -1,4 +1,3 @@
-pub mod Texts
 pub mod Meaning
 pub mod Spelling
 pub mod Passes

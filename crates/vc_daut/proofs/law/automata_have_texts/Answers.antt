@@ -1,6 +1,6 @@
 use Rattle.std.proofs.Common.{◌≡◌, ◌≤◌, ◌∙◌, length, ap, subst}
 use Rattle.vc_daut.proofs.SpelledTexts.{text_spells}
-use Rattle.vc_reader.specs.Texts.{weighed}
+use Rattle.vc_ring.specs.Weighed.{weighed}
 use Rattle.vc_lex.specs.declared.token.Mode.TheVariants.{Line}
 use Rattle.vc_daut.proofs.law.automata_have_texts.Goals as goal
 

@@ -10,7 +10,7 @@ use Rattle.vc_reader.specs.Spelling.{lines_in}
 use Rattle.vc_reader.specs.NameSets.{names_seen}
 use Rattle.vc_reader.proofs.PassAnswers.{names_found, head_is, build_answer}
 use Rattle.vc_reader.proofs.NameOrder.{with_names_once}
-use Rattle.vc_reader.specs.Texts.{weighed}
+use Rattle.vc_ring.specs.Weighed.{weighed}
 use Rattle.vc_reader.proofs.read.read_daut.Goals as goal
 
 pub in_order-requires : goal.in_order-requires

@@ -1,7 +1,7 @@
 use Rattle.std.proofs.Common.{◌∙◌, Err, Ok, inr, subst, sym}
 use Rattle.vc_top.specs.Inputs.{IsReading, ReadsLines}
 use Rattle.vc_top.specs.Outcomes.{OrMemory}
-use Rattle.vc_reader.specs.Texts.{weighed}
+use Rattle.vc_ring.specs.Weighed.{weighed}
 use Rattle.vc_top.proofs.LinesRead.{automaton_read, fault_read}
 use Rattle.vc_top.proofs.input.read_over.Goals as goal
 
