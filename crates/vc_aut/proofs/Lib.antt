@@ -13,3 +13,6 @@ pub mod Merged
 pub mod Merging
 pub mod Sorted
 pub mod Summed
+pub mod Ascending
+pub mod Blocks
+pub mod Relabelled
