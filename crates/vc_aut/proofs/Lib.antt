@@ -16,3 +16,4 @@ pub mod Summed
 pub mod Ascending
 pub mod Blocks
 pub mod Relabelled
+pub mod WiderSets

@@ -6,9 +6,12 @@ ghost use Rattle.vc_aut.specs.Drafts.{Draft, IsDraft, with_final, with_initial, 
 ghost use Rattle.vc_aut.specs.Order.{AreInOrder, move_order, moves_from};
 ghost use Rattle.vc_aut.specs.Sums.{insert_all, insert_transition, standing};
 ghost use Rattle.vc_aut.specs.Validity.{IsLabelled, IsMove};
+ghost use Rattle.vc_aut.specs.Wider.{AreWithin};
+ghost use Rattle.vc_label.specs.Order.{word_order};
+ghost use Rattle.vc_label.specs.Sets.{IsOverSets};
+ghost use Rattle.vc_label.specs.declared.tape_set.TapeSet.{TapeSet};
 ghost use Rattle.vc_model.specs.Automata.{IsAutomaton, IsProper, Transition, final_weight, initial_weight, triple};
 ghost use Rattle.vc_model.specs.Gathered.{IsGathered, same_triple, weight_at};
-ghost use Rattle.vc_label.specs.Order.{word_order};
 ghost use Rattle.vc_model.specs.Lists.{In, IsEqualityTest, below};
 ghost use Rattle.vc_model.specs.WeightSet.{WeightSet, SemiringLaws};
 ghost use Rattle.vc_model.specs.Words.{Word, same_word};
@@ -125,4 +128,13 @@ pub fn transitions_are_in_order<V>()
         ≡ ts }
 {
     words_are_ordered();
+}
+
+/// The labels of an automaton are labels over each list of sets that has, tape by tape, all that
+/// its own sets have, as `with_labels` wants it: words where letters were, or a larger alphabet.
+pub fn labels_are_over_wider_sets<L: LabelSet, S: Semiring>(aut: &Automaton<L, S>)
+    ensures { (sets : List TapeSet) → AreWithin aut.now.sets sets
+        → All (λ t. IsOverSets sets t.label) aut.now.automaton.transitions }
+{
+    automata_are_valid(aut);
 }
