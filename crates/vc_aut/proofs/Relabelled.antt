@@ -5,7 +5,6 @@ use Rattle.vc_label.specs.Sets.{IsOverSets}
 use Rattle.vc_label.specs.declared.tape_set.TapeSet.{TapeSet}
 use Rattle.vc_model.specs.Automata.{Automaton}
 use Rattle.vc_model.specs.WeightSet.{WeightSet}
-use Rattle.vc_aut.specs.Labelled.{Labelled}
 use Rattle.vc_aut.specs.Validity.{IsLabelled, IsMove}
 
 -- what holds of each holds of the one at a place
@@ -38,7 +37,3 @@ labelled_over R sets other A h over = record {
   few_transitions = h.few_transitions;
   weight = h.weight;
 }
-
--- the same automaton over other sets
-abbrev pub over : {V : Type 0} → List TapeSet → Labelled V → Labelled V
-over sets a = record { sets = sets; automaton = a.automaton }

@@ -4,6 +4,7 @@ use Rattle.vc_label.specs.Alphabets.{has_letter}
 use Rattle.vc_label.specs.declared.tape_set.TapeKind.{TapeKind}
 use Rattle.vc_label.specs.declared.tape_set.TapeKind.TheVariants.{Letters, Nullable, Words}
 use Rattle.vc_label.specs.declared.tape_set.TapeSet.{TapeSet}
+use Rattle.vc_aut.specs.Labelled.{Labelled}
 
 -- the second kind allows as many letters as a part of the first has
 abbrev pub IsKindWithin : TapeKind → TapeKind → Type 0
@@ -26,3 +27,7 @@ AreWithin [] [] = ⊤
 AreWithin [] (t ∷ ts) = ⊥
 AreWithin (s ∷ ss) [] = ⊥
 AreWithin (s ∷ ss) (t ∷ ts) = IsWithin s t × AreWithin ss ts
+
+-- the same automaton, with its labels over these sets
+abbrev pub over_sets : {V : Type 0} → List TapeSet → Labelled V → Labelled V
+over_sets sets a = record { sets = sets; automaton = a.automaton }

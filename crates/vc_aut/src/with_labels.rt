@@ -13,6 +13,7 @@ use vc_ring::Semiring;
 
 impl<L: LabelSet, S: Semiring> Automaton<L, S> {
     ghost use Rattle.std.specs.Prelude.{◌≡◌, All, IfOk};
+    ghost use Rattle.vc_aut.specs.Wider.{over_sets};
     ghost use Rattle.vc_label.specs.Sets.{IsOverSets};
 
     /// The automaton with the labels of another set that have the same parts: letters become words
@@ -27,7 +28,7 @@ impl<L: LabelSet, S: Semiring> Automaton<L, S> {
         labels: M,
     ) -> Result<Automaton<M, S>, AllocError>
         requires { All (λ t. IsOverSets (M.sets labels) t.label) self.now.automaton.transitions }
-        ensures { IfOk result (λ a. a ≡ record { sets = M.sets labels; automaton = self.now.automaton }) }
+        ensures { IfOk result (λ a. a ≡ over_sets (M.sets labels) self.now) }
     {
         let transitions = relabelled::<L, M, S>(alloc, self.transitions.as_slice(), labels)?;
         let initial_weights = Vec::from_slice(alloc, self.initial_weights.as_slice())?;
@@ -45,6 +46,7 @@ impl<L: LabelSet, S: Semiring> Automaton<L, S> {
 
 impl<L: LabelSet, S: Semiring> Proper<L, S> {
     ghost use Rattle.std.specs.Prelude.{◌≡◌, All, IfOk};
+    ghost use Rattle.vc_aut.specs.Wider.{over_sets};
     ghost use Rattle.vc_label.specs.Sets.{IsOverSets};
 
     /// `Automaton::with_labels`, which leaves an automaton proper.
@@ -54,7 +56,7 @@ impl<L: LabelSet, S: Semiring> Proper<L, S> {
         labels: M,
     ) -> Result<Proper<M, S>, AllocError>
         requires { All (λ t. IsOverSets (M.sets labels) t.label) self.now.automaton.transitions }
-        ensures { IfOk result (λ a. a ≡ record { sets = M.sets labels; automaton = self.now.automaton }) }
+        ensures { IfOk result (λ a. a ≡ over_sets (M.sets labels) self.now) }
     {
         let automaton = self.automaton.with_labels(alloc, labels)?;
         Ok(Proper { automaton })
@@ -67,8 +69,10 @@ fn relabelled<L: LabelSet, M: LabelSet, S: Semiring>(
     transitions: &[Transition<L, S>],
     labels: M,
 ) -> Result<Vec<Transition<M, S>>, AllocError>
-    requires { All (λ t. IsOverSets (M.sets labels) t.label) (map (transition_of L.parts) transitions.now) }
-    ensures { IfOk result (λ v. map (transition_of M.parts) v.items ≡ map (transition_of L.parts) transitions.now) }
+    requires { All (λ t. IsOverSets (M.sets labels) t.label)
+        (map (transition_of L.parts) transitions.now) }
+    ensures { IfOk result (λ v. map (transition_of M.parts) v.items
+        ≡ map (transition_of L.parts) transitions.now) }
 {
     let mut same = Vec::with_capacity(alloc, transitions.len())?;
     for transition in transitions {

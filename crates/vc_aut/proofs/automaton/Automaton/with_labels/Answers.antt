@@ -1,8 +1,9 @@
 use Rattle.std.proofs.Common.{rules, ◌≡◌, ap, sym, map, subst, All}
 use Rattle.vc_label.specs.Sets.{IsOverSets}
 use Rattle.vc_aut.specs.Labelled.{Labelled}
+use Rattle.vc_aut.specs.Wider.{over_sets}
 use Rattle.vc_aut.specs.Stored.{automaton_of, transition_of}
-use Rattle.vc_aut.proofs.Relabelled.{labelled_over, over}
+use Rattle.vc_aut.proofs.Relabelled.{labelled_over}
 use Rattle.vc_aut.proofs.automaton.Automaton.with_labels.Goals as goal
 
 pub invariant_of-result : goal.invariant_of-result
@@ -27,4 +28,4 @@ returns g c =
     let moves : map new c.in_ok-transitions.transitions.items ≡ map old c.self.inside.transitions.items = search rules in
     let initial : c.in_ok-initial_weights.initial_weights.items ≡ c.self.inside.initial_weights.items = search rules in
     let final : c.in_ok-final_weights.final_weights.items ≡ c.self.inside.final_weights.items = search rules in
-    rw (moves, initial, final) (ap (over (g.M.LabelSet.sets c.args.labels)) c.self.view_is)
+    rw (moves, initial, final) (ap (over_sets (g.M.LabelSet.sets c.args.labels)) c.self.view_is)
