@@ -1,5 +1,5 @@
 -- A pool with one node more.
-use Rattle.std.proofs.Common.{◌≡◌, ℕ, zero, suc, ◌<◌, ◌+◌, ◌⊎◌, arith, Bool, true, false, not, cond, List, [], ◌∷◌, ◌++◌, length, length-append, zero-add, map, Option, Some, None, refl, sym, ap, ◌∙◌, subst, inl, inr, ◌↔◌}
+use Rattle.std.proofs.Common.{◌≡◌, ℕ, zero, suc, ◌<◌, ◌+◌, ◌⊎◌, arith, Bool, true, false, not, cond, List, [], ◌∷◌, ◌++◌, length, length-append, zero-add, map, Some, refl, sym, ap, ◌∙◌, subst, inl, inr, ◌↔◌}
 use Rattle.std.specs.List.{slice_get, position_or_len}
 use Rattle.std.specs.Map.{keys_of}
 use Rattle.indexmap.specs.IndexMap.{insert_entry}

@@ -1,5 +1,4 @@
 -- The expression that a tree of the code stands for.
-use Rattle.std.specs.Prelude.{List}
 use Rattle.vc_model.specs.Words.{Word}
 use Rattle.vc_terms.specs.Terms as term
 use Rattle.vc_terms.specs.Terms.{Term, terms_of}
