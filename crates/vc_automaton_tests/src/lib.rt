@@ -5,3 +5,5 @@
 mod automata;
 #[cfg(test)]
 mod coefficients;
+#[cfg(test)]
+mod labels;

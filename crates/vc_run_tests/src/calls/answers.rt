@@ -13,6 +13,8 @@ pub(super) const ANSWERS: &[Group] = &[
             (&["eval", "contains_ab", "aab"], 0, "1\n", ""),
             (&["eval", "contains_ab", "ba"], 0, "0\n", ""),
             (&["eval", "contains_ab", "\\e"], 0, "0\n", ""),
+            (&["eval", "contains_ab", " 'aab'\t"], 0, "1\n", ""),
+            (&["eval", "contains_ab", "''"], 0, "0\n", ""),
             (&["eval", "gaps", "a"], 0, "1\n", ""),
             (&["eval", "gaps", "_Z_"], 0, "1\n", ""),
             (&["eval", "gaps", "aZ"], 0, "0\n", ""),

@@ -10,7 +10,12 @@ pub(super) const REFUSALS: &[Group] = &[
         failing: &[],
         rows: &[
             (&["eval", "contains_ab", "ac"], 6, "", WORD_LABEL),
+            (&["eval", "contains_ab", "a\\+"], 6, "", WORD_LABEL),
+            (&["eval", "contains_ab", "a|b"], 6, "", WORD_LABEL),
             (&["eval", "contains_ab", "a||"], 5, "", WORD_SYNTAX),
+            (&["eval", "contains_ab", "a b"], 5, "", WORD_SYNTAX),
+            (&["eval", "contains_ab", "'ab"], 5, "", WORD_SYNTAX),
+            (&["eval", "contains_ab", "a # b"], 5, "", WORD_SYNTAX),
             (&["eval", "contains_ab", ""], 5, "", WORD_SYNTAX),
             (&["eval", "greatest_cost", "a"], 9, "", RANGE),
             (&["eval", "pairs", "%"], 11, "", CONTEXTS),

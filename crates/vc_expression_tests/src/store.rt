@@ -1,4 +1,5 @@
-// Tests of `vc_expr`, for a crate that lists vc_atoms, vc_basic, vc_expr, vc_label and vc_ring.
+//! Tests of `vc_expr`: one name for equal trees, and refusals that name their step.
+
 ghost use Rattle.std.specs.Prelude.{◌↔◌, All, IsTrue};
 ghost use Rattle.vc_expr.specs.Names.{Has};
 
@@ -100,7 +101,10 @@ fn refused_calls_name_their_step(rt: HostRuntime) -> Result<(), Fail> {
         left: large,
         right: large,
     };
-    assert_eq!(rt; product(&mut store, &[heavy, heavy])?, Err(ExprFault::Overflow(step)));
+    assert_eq!(rt;
+        product(&mut store, &[heavy, heavy])?,
+        Err(ExprFault::Overflow(step))
+    );
     assert!(rt; store.has(heavy));
     assert_eq!(rt; weighted(&store, heavy), Some((large, a)));
     Ok(())

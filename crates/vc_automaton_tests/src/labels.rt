@@ -1,4 +1,4 @@
-A test of with_labels, for the crate of tests (wants vc_aut, vc_atoms, vc_basic, vc_label; proved with no answers).
+//! Tests of `vc_aut`: other labels of the same parts.
 
 ghost use Rattle.std.specs.Prelude.{◌≡◌, ◌<◌, ◌∷◌, [], IfOk, IsTrue, OnOk};
 ghost use Rattle.vc_label.specs.Letters.{are_letters};

@@ -1,10 +1,12 @@
-use vc_exprio::{WordFault, read_word, write_word};
+//! Tests of `vc_exprio`: words from their texts, and back.
+
 use std::alloc::{AllocError, Global};
 use std::test::Fail;
 use vc_atoms::Words;
+use vc_exprio::{WordFault, read_word, write_word};
 use vc_label::{Alphabet, LabelSet};
 
-// The text that is written of the word that a text spells, or what the reader answers in its place.
+/// The text that is written of the word that a text spells, or what the reader answers in its place.
 fn written<L: LabelSet>(alloc: Global, labels: &L, text: &str) -> Result<String, AllocError> {
     let mut into = String::new(alloc);
     match read_word(alloc, labels, text) {
