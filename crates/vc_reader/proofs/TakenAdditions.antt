@@ -1,5 +1,5 @@
 -- Where nothing is refused, each addition fits, and there are not too many triples.
-use Rattle.std.proofs.Common.{◌≡◌, ◌<◌, ◌≤◌, ◌+◌, ◌⊎◌, ◌++◌, ℕ, Bool, true, false, not, ◌&&◌, List, [], ◌∷◌, length, map, Option, Some, None, IsTrue, refl, ap, ap₂, sym, ◌∙◌, subst, inl, inr, arith}
+use Rattle.std.proofs.Common.{◌≡◌, ◌≤◌, ◌+◌, ◌⊎◌, ◌++◌, ℕ, Bool, true, false, not, ◌&&◌, List, [], ◌∷◌, length, map, Option, Some, None, IsTrue, refl, ap, ap₂, sym, ◌∙◌, subst, inl, inr, arith}
 use Rattle.std.specs.Prelude.{◌↔◌, if◌then◌else◌, nat_lt, option_to_list, unwrap_or}
 use Rattle.std.specs.declared.cmp.Ordering.TheVariants.{Equal}
 use Rattle.std.specs.List.{flat_map}
@@ -30,10 +30,10 @@ use Rattle.vc_text.specs.Escapes.{inside}
 use Rattle.vc_lex.specs.Labels.{label_words}
 use Rattle.vc_lines.specs.Grammar.{Line, blank, initial_at, final_at, moves, state, entries_of, entry_weight, entry_label, name_of}
 use Rattle.vc_lines.specs.Heads.{HeadLine}
-use Rattle.vc_lines.specs.Names.{AreNames, line_names}
+use Rattle.vc_lines.specs.Names.{AreNames}
 use Rattle.vc_reader.specs.Additions.{HasManyTriples, IsUnfitAddition, given_weight, sum_standing}
 use Rattle.vc_reader.specs.Answers.{IsBuilt, given_after, states_alone}
-use Rattle.vc_reader.specs.Building.{AreTaken, HaveNumbers, entry_weights, given_refusal, is_past, line_weights, sum_refusal, with_all, with_given}
+use Rattle.vc_reader.specs.Building.{AreTaken, HaveNumbers, given_refusal, line_weights, sum_refusal, with_all, with_given}
 use Rattle.vc_reader.specs.Meaning.{Given, begins, ends, moves_by, moves_with, moving, weight_of, given_by, given_by_entry, number_of, only}
 use Rattle.vc_reader.specs.Passes.{with_states}
 use Rattle.vc_reader.specs.Spelling.{lines_in}

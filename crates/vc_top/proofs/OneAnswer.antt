@@ -22,7 +22,7 @@ use Rattle.vc_reader.specs.declared.fault.DautFault.TheVariants as fault
 use Rattle.vc_files.specs.Files.{Bytes, Held, Holds}
 use Rattle.vc_label.specs.declared.tape_set.TapeSet.{TapeSet}
 use Rattle.vc_model.specs.Automata.{Automaton}
-use Rattle.vc_model.specs.WeightSet.{WeightSet, SemiringLaws}
+use Rattle.vc_model.specs.WeightSet.{SemiringLaws}
 use Rattle.vc_rat.specs.RationalLaws.{rational_laws}
 use Rattle.vc_rat.specs.declared.fraction.Fraction.{Fraction}
 use Rattle.vc_ring.specs.declared.faults.Measure.TheVariants.{Bytes as BytesOf}
