@@ -88,7 +88,7 @@ impl Read for Trickle {
 
 impl Write for Trickle {
     fn write(&mut self, _piece: &[u8]) -> io::Result<usize> {
-        refused()
+        Err(ErrorKind::Unsupported.into())
     }
 
     fn flush(&mut self) -> io::Result<()> {
