@@ -1,5 +1,5 @@
 -- What each command answers is lawful: a line for each command.
-use Rattle.std.proofs.Common.{◌≡◌, ◌∙◌, List, [], ◌∷◌, ℕ, Bool, true, false, Option, None, Some, Err, refl, sym, ap, ap₂, subst, inl, inr}
+use Rattle.std.proofs.Common.{◌≡◌, ◌∙◌, List, Bool, true, false, Option, None, Some, Err, refl, sym, ap, ap₂, subst, inl, inr}
 use Rattle.std.specs.Prelude.{nat_lt, if◌then◌else◌}
 use Rattle.vc_aut.specs.Labelled.{Labelled}
 use Rattle.vc_command.specs.Requests.{Asked}
