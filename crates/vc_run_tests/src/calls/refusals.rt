@@ -1,6 +1,6 @@
-//! Calls that are refused, and sinks and reads that fail.
+//! Words and files that are refused.
 
-use super::rows::{CONTEXTS, Group, RANGE, UNWRITTEN, USAGE, WORD_LABEL, WORD_SYNTAX};
+use super::rows::{CONTEXTS, Group, RANGE, WORD_LABEL, WORD_SYNTAX};
 
 pub(super) const REFUSALS: &[Group] = &[
     Group {
@@ -120,124 +120,6 @@ pub(super) const REFUSALS: &[Group] = &[
                 "vcsnr: foreign_letter:2: not a label\n",
             ),
             (&["cat", "sum_past_range"], 9, "", RANGE),
-        ],
-    },
-    Group {
-        shows: "words that give no request are `Usage`",
-        out_takes: 1024,
-        err_takes: 128,
-        failing: &[],
-        rows: &[
-            (&["eval"], 2, "", USAGE),
-            (&["eval", "contains_ab", "-ab"], 2, "", USAGE),
-            (&["eval", "-contains_ab", "ab"], 2, "", USAGE),
-            (&["eval", "contains_ab", "ab", "--limit", "3"], 2, "", USAGE),
-            (&["cat", "contains_ab", "--limit", "3"], 2, "", USAGE),
-            (&["context", "lal_char(ab), b", "--limit=3"], 2, "", USAGE),
-            (&["context", "-lal_char(ab), b"], 2, "", USAGE),
-            (&["dog", "contains_ab"], 2, "", USAGE),
-            (&[], 2, "", USAGE),
-        ],
-    },
-    Group {
-        shows: "a command that is not built is `Usage`, and reads nothing",
-        out_takes: 1024,
-        err_takes: 128,
-        failing: &[],
-        rows: &[
-            (&["expr", "lal_char(ab), b", "a"], 2, "", USAGE),
-            (&["eval", "lal_char(ab), b", "a", "a"], 2, "", USAGE),
-            (
-                &["standard", "lal_char(ab), b", "a", "--limit", "3"],
-                2,
-                "",
-                USAGE,
-            ),
-            (&["derived", "lal_char(ab), b", "a"], 2, "", USAGE),
-            (&["proper", "not_held"], 2, "", USAGE),
-            (&["trim", "contains_ab"], 2, "", USAGE),
-            (
-                &["conjunction", "contains_ab", "not_held", "--limit", "3"],
-                2,
-                "",
-                USAGE,
-            ),
-            (&["shuffle", "contains_ab", "contains_ab"], 2, "", USAGE),
-            (&["compose", "pairs", "pairs"], 2, "", USAGE),
-            (&["determinize", "contains_ab", "--limit=3"], 2, "", USAGE),
-            (&["quotient", "contains_ab"], 2, "", USAGE),
-            (
-                &["to-expression", "contains_ab", "--order", "0,1,2"],
-                2,
-                "",
-                USAGE,
-            ),
-            (&["reduce", "halves"], 2, "", USAGE),
-            (&["generate", "3"], 2, "", USAGE),
-            (&["generate", "0"], 2, "", USAGE),
-        ],
-    },
-    Group {
-        shows: "a read that fails is no shorter file",
-        out_takes: 1024,
-        err_takes: 128,
-        failing: &[0],
-        rows: &[
-            (
-                &["eval", "contains_ab", "ab"],
-                3,
-                "",
-                "vcsnr: cannot read contains_ab\n",
-            ),
-            (
-                &["cat", "contains_ab"],
-                3,
-                "",
-                "vcsnr: cannot read contains_ab\n",
-            ),
-            (&["context", "lal_char(ab), b"], 0, "lal_char(ab), b\n", ""),
-        ],
-    },
-    Group {
-        shows: "a sink that takes nothing is a write fault",
-        out_takes: 0,
-        err_takes: 128,
-        failing: &[],
-        rows: &[
-            (&["eval", "contains_ab", "ab"], 4, "", UNWRITTEN),
-            (&["eval", "contains_ab", "ac"], 6, "", WORD_LABEL),
-        ],
-    },
-    Group {
-        shows: "a sink keeps the front that it takes",
-        out_takes: 10,
-        err_takes: 128,
-        failing: &[],
-        rows: &[
-            (&["cat", "contains_ab"], 4, "context = ", UNWRITTEN),
-            (&["eval", "contains_ab", "ab"], 0, "1\n", ""),
-        ],
-    },
-    Group {
-        shows: "a fault of the error sink changes no status",
-        out_takes: 1024,
-        err_takes: 7,
-        failing: &[],
-        rows: &[
-            (&["cat", "not_held"], 3, "", "vcsnr: "),
-            (&["eval", "contains_ab", "ac"], 6, "", "vcsnr: "),
-            (&["eval"], 2, "", "vcsnr: "),
-            (&["eval", "contains_ab", "ab"], 0, "1\n", ""),
-        ],
-    },
-    Group {
-        shows: "both sinks may fail",
-        out_takes: 0,
-        err_takes: 0,
-        failing: &[],
-        rows: &[
-            (&["cat", "contains_ab"], 4, "", ""),
-            (&["cat", "empty"], 5, "", ""),
         ],
     },
 ];
