@@ -82,11 +82,11 @@ module _ {V : Type 0} (R : WeightSet V) (same : V → V → Bool) (a : Automaton
         (r.0, (let b = In-up_from r.0 0 a.states r.1 in omega (arith, b.1)), inl (initial_only r.0 l r.2))
     | inr j ↦
         let r = In-flat_map_from (state_lines R same a) l (below a.states) j in
-        (r.0, (let b = In-up_from r.0 0 a.states r.1 in omega (arith, b.1)), inr (behind r.0 r.2))
+        (r.0, (let b = In-up_from r.0 0 a.states r.1 in omega (arith, b.1)), inr (after r.0 r.2))
   ]
     where
-      behind : (p : ℕ) → In l (state_lines R same a p) → IsMovesLine a.states p (from_state a p) l ⊎ ((l ≡ ends_line p (final_weight R a p)) ⊎ (l ≡ state_line p))
-      behind p i = elim (In-append_cases l (transition_lines R same a p) (final_line R same a p ++ lone_line R same a p) i) [
+      after : (p : ℕ) → In l (state_lines R same a p) → IsMovesLine a.states p (from_state a p) l ⊎ ((l ≡ ends_line p (final_weight R a p)) ⊎ (l ≡ state_line p))
+      after p i = elim (In-append_cases l (transition_lines R same a p) (final_line R same a p ++ lone_line R same a p) i) [
         | inl j ↦ inl (moves_only a.states p (from_state a p) l j)
         | inr j ↦ elim (In-append_cases l (final_line R same a p) (lone_line R same a p) j) [
           | inl k ↦ inr (inl (final_only p l k))

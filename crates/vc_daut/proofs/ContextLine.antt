@@ -139,13 +139,13 @@ quoted_read s h =
     let text : List ℕ = s ++ 34 ∷ [] in
     let end : before begins_quote text ≡ length s = h.passed (34 ∷ []) ∙ add-zero (length s) in
     let within : nat_lt (length s) (length text) ≡ true = lt-ltb (length s) (length text) (omega (arith, length-append s (34 ∷ []))) in
-    let behind : drop (length s + 1) text ≡ [] = drop-append-add s (34 ∷ []) 1 in
+    let after : drop (length s + 1) text ≡ [] = drop-append-add s (34 ∷ []) 1 in
     ap (λ n. if nat_lt n (length text) && is_blank_line (drop (n + 1) text) then Some (take n text) else None) end
-    ∙ ap₂ (λ b t. if b && is_blank_line t then Some (take (length s) text) else None) within behind
+    ∙ ap₂ (λ b t. if b && is_blank_line t then Some (take (length s) text) else None) within after
     ∙ ap Some (take-append_seam s (34 ∷ []))
 
 -- the context is read from its line
-pub context_line_read : (s : List ℕ) → IsQuotable s → contexts.context_text (codes "context = \"" ++ (s ++ codes "\"")) ≡ Some s
+pub context_line_read : (s : List ℕ) → IsQuotable s → contexts.context_in_line (codes "context = \"" ++ (s ++ codes "\"")) ≡ Some s
 context_line_read s h = quoted_read s h
 
 first_is_plain : is_plain 99 ≡ true
@@ -160,6 +160,6 @@ first_begins (y ∷ s) = ap (λ b. option_map (λ (l : LetterAt). l.after) (if b
 -- and that line is not blank
 pub context_line_stands : (s : List ℕ) → is_blank_line (codes "context = \"" ++ s) ≡ false
 context_line_stands s =
-    let behind : List ℕ = codes "ontext = \"" ++ s in
-    ap (λ o. is_end (option_map_or (λ width. Found Run (front letter_width (99 ∷ behind))) o (line_token 99 behind)))
-    (first_begins behind)
+    let after : List ℕ = codes "ontext = \"" ++ s in
+    ap (λ o. is_end (option_map_or (λ width. Found Run (front letter_width (99 ∷ after))) o (line_token 99 after)))
+    (first_begins after)

@@ -15,9 +15,11 @@ use Rattle.vc_model.specs.WeightSet.{WeightSet}
 use Rattle.vc_model.specs.Words.{Word}
 use Rattle.vc_ring.specs.Texts.{TextLaws}
 use Rattle.vc_daut.specs.Canonical.{weight_text, label_text, entry_text, entries_text}
-use Rattle.vc_lines.specs.Grammar.{inside, is_weight_kind, is_comma, is_label, is_entry, is_weight_or_none, entries_of, entry_weight, entry_label}
-use Rattle.vc_lines.specs.Labels.{label_words, IsLabelOver}
-use Rattle.vc_lines.specs.Marks.{Mark}
+use Rattle.vc_lex.specs.Labels.{label_words, IsLabelOver}
+use Rattle.vc_lex.specs.Marks.{Mark}
+use Rattle.vc_lex.specs.Parts.{is_label}
+use Rattle.vc_text.specs.Escapes.{inside}
+use Rattle.vc_lines.specs.Grammar.{is_weight_kind, is_comma, is_entry, is_weight_or_none, entries_of, entry_weight, entry_label}
 use Rattle.vc_reader.specs.Meaning.{moves_by, moves_with, weight_of, given_by_entries}
 use Rattle.vc_lines.specs.Pieces.{pieces, onto_first}
 use Rattle.vc_reader.specs.Spelling.{AreEntriesOver}
@@ -164,14 +166,14 @@ module _ {V : Type 0} (R : WeightSet V) (spelled : List ℕ → Option V) (fit :
         commas = labels_without_comma n blanks a l;
       }
   entry_read sets false blanks n w (a ∷ l) h over range one =
-      let behind : ℕ = n + length blanks + length (weight_text canonical w) in
+      let after : ℕ = n + length blanks + length (weight_text canonical w) in
       let is : spelled (inside (weight_text canonical w)) ≡ Some w = weight_read R spelled fit canonical laws w range in
       record {
-        good = ap₂ (λ o k. is_some o && k) is (label_is_label behind [] a l);
-        over = label_over sets behind [] a l over;
-        words = label_is_words sets behind [] a l;
+        good = ap₂ (λ o k. is_some o && k) is (label_is_label after [] a l);
+        over = label_over sets after [] a l over;
+        words = label_is_words sets after [] a l;
         weight = ap (λ o. unwrap_or o R.one) is;
-        commas = (refl, labels_without_comma behind [] a l);
+        commas = (refl, labels_without_comma after [] a l);
       }
 
   module _ (same : V → V → Bool) (is_same : IsEqualityTest same) (sets : List TapeSet) (some : 1 ≤ length sets)

@@ -14,9 +14,10 @@ use Rattle.vc_lex.specs.declared.token.TokenKind.{TokenKind}
 use Rattle.vc_lex.specs.declared.token.TokenKind.TheVariants.{One, Run, Bar}
 use Rattle.vc_model.specs.Words.{Tape, Word}
 use Rattle.vc_daut.specs.Canonical.{part_text, label_text}
-use Rattle.vc_lines.specs.Grammar.{is_part_kind, is_class_kind, is_weight_kind, is_comma_kind, is_comma, are_parts, is_class, is_label}
-use Rattle.vc_lines.specs.Labels.{tape_text, parts_word, label_words, IsLabelOver, IsClassOver, class_body, class_words}
-use Rattle.vc_lines.specs.Marks.{Mark}
+use Rattle.vc_lex.specs.Labels.{label_words, IsLabelOver, IsClassOver, class_words}
+use Rattle.vc_lex.specs.Marks.{Mark}
+use Rattle.vc_lex.specs.Parts.{is_part_kind, is_class_kind, are_parts, is_class, is_label, tape_text, parts_word, class_body}
+use Rattle.vc_lines.specs.Grammar.{is_weight_kind, is_comma_kind, is_comma}
 use Rattle.vc_daut.proofs.LetterTokens.{letters_several, letters_some, letters_ink, letters_read}
 use Rattle.vc_daut.proofs.TokenTexts.{Piece, spread, marks_at, AreSet, IsInk, IsClear, run_ends, piece_set}
 
@@ -75,17 +76,17 @@ bars_set : (w : Word) (rest : List Piece) → is_of_letters w ≡ true → AreSe
 bars_set [] rest h set clear = set
 bars_set (a ∷ w) rest h set clear =
     let b = and_parts (are_letters a) (is_of_letters w) h in
-    let behind : List ℕ = spread (bar_pieces w ++ rest) in (
-      piece_set [] (codes "|") (part_text a ++ behind) Bar refl (λ r. refl) refl tt,
-      (piece_set [] (part_text a) behind (part_kind a) refl (part_ink a) (part_token a b.0) (part_ends a behind (bars_clear w rest clear)), bars_set w rest b.1 set clear),
+    let after : List ℕ = spread (bar_pieces w ++ rest) in (
+      piece_set [] (codes "|") (part_text a ++ after) Bar refl (λ r. refl) refl tt,
+      (piece_set [] (part_text a) after (part_kind a) refl (part_ink a) (part_token a b.0) (part_ends a after (bars_clear w rest clear)), bars_set w rest b.1 set clear),
     )
 
 pub label_set : (blanks : List ℕ) (a : Tape) (w : Word) (rest : List Piece) → list_all is_blank blanks ≡ true → is_of_letters (a ∷ w) ≡ true → AreSet rest → IsClear (spread rest)
     → AreSet (label_pieces blanks (a ∷ w) ++ rest)
 label_set blanks a w rest h letters set clear =
     let b = and_parts (are_letters a) (is_of_letters w) letters in
-    let behind : List ℕ = spread (bar_pieces w ++ rest) in
-    (piece_set blanks (part_text a) behind (part_kind a) h (part_ink a) (part_token a b.0) (part_ends a behind (bars_clear w rest clear)), bars_set w rest b.1 set clear)
+    let after : List ℕ = spread (bar_pieces w ++ rest) in
+    (piece_set blanks (part_text a) after (part_kind a) h (part_ink a) (part_token a b.0) (part_ends a after (bars_clear w rest clear)), bars_set w rest b.1 set clear)
 
 -- ---- what is read
 

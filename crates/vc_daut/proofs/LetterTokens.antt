@@ -9,7 +9,7 @@ use Rattle.vc_text.specs.Blanks.{is_blank}
 use Rattle.vc_label.specs.Letters.{is_letter, are_letters}
 use Rattle.vc_lex.specs.Grammar.{IsLetter, Several, Each, joined}
 use Rattle.vc_model.specs.Words.{Tape}
-use Rattle.vc_lines.specs.Labels.{unescaped}
+use Rattle.vc_text.specs.Escapes.{unescaped}
 use Rattle.vc_daut.proofs.TokenTexts.{IsInk, ink_at}
 
 -- ---- plain letters

@@ -61,9 +61,9 @@ module _ {V : Type 0} (R : WeightSet V) (same : V → V → Bool) (canonical : V
       ∙ ap₂ (λ l ls. l ∷ ls) (no_return (body R same canonical t) shown) (lines_cut ts h.1)
 
   -- a shown line, a line feed, and lines
-  pub behind_line : (first : List ℕ) (ts : List (TextLine V)) → AreShown first → AreTextLines R sets ts
+  pub after_line : (first : List ℕ) (ts : List (TextLine V)) → AreShown first → AreTextLines R sets ts
       → lines_of (first ++ 10 ∷ flat_map (line_text R same canonical) ts) ≡ first ∷ map (body R same canonical) ts
-  behind_line first ts shown h =
+  after_line first ts shown h =
       ap (λ ls. with_first (map without_return ls)) (cut_line first (flat_map (line_text R same canonical) ts) shown)
       ∙ ap₂ (λ l ls. l ∷ counted ls) (no_return first shown) (lines_cut ts h)
       ∙ ap (λ ls. first ∷ ls) (counted_end (map (body R same canonical) ts))
@@ -76,4 +76,4 @@ text_cut T bytes sets letters weights a shown h =
     let first : List ℕ = codes "context = \"" ++ (c ++ codes "\"") in
     let ts = automaton_lines T.set T.same a in
     ap (λ s. lines_of (codes "context = \"" ++ s)) (sym (append_assoc c (codes "\"") (10 ∷ flat_map (line_text T.set T.same T.canonical) ts)))
-    ∙ behind_line T.set T.same T.canonical bytes sets letters first ts (shown_append (codes "context = \"") (c ++ codes "\"") refl (shown_append c (codes "\"") shown refl)) h
+    ∙ after_line T.set T.same T.canonical bytes sets letters first ts (shown_append (codes "context = \"") (c ++ codes "\"") refl (shown_append c (codes "\"") shown refl)) h

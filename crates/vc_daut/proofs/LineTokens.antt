@@ -1,8 +1,9 @@
 -- Lines of the canonical text are read as what they say.
-use Rattle.std.proofs.Common.{◌≡◌, ℕ, ◌+◌, ◌≤◌, Bool, true, false, ◌&&◌, List, [], ◌∷◌, ◌++◌, length, map, codes, Option, Some, None, refl, ap, sym, ◌∙◌, subst, append_assoc, append-nil}
+use Rattle.std.proofs.Common.{◌≡◌, ℕ, ◌+◌, ◌≤◌, Bool, true, false, ◌&&◌, List, [], ◌∷◌, ◌++◌, length, map, codes, Option, Some, None, Ok, refl, ap, sym, ◌∙◌, subst, append_assoc, append-nil}
 use Rattle.std.specs.Prelude.{IsTrue, if◌then◌else◌, unwrap_or}
 use Rattle.std.specs.Fmt.{decimal}
 use Rattle.std.specs.Option.{is_some, option_and_then}
+use Rattle.std.specs.Result.{result_ok}
 use Rattle.std.specs.List.{list_all}
 use Rattle.vc_label.specs.Letters.{is_of_letters}
 use Rattle.vc_label.specs.Sets.{IsOverSets}
@@ -14,10 +15,11 @@ use Rattle.vc_model.specs.Lists.{IsEqualityTest}
 use Rattle.vc_model.specs.WeightSet.{WeightSet}
 use Rattle.vc_model.specs.Words.{Word}
 use Rattle.vc_ring.specs.Texts.{TextLaws}
-use Rattle.vc_daut.specs.Canonical.{TextLine, begins_line, moves_line, ends_line, state_line, weight_text, behind_state, entries_text, line_text}
+use Rattle.vc_daut.specs.Canonical.{TextLine, begins_line, moves_line, ends_line, state_line, weight_text, after_state, entries_text, line_text}
+use Rattle.vc_lex.specs.Marks.{Mark, HasMarks, marks_of}
+use Rattle.vc_lex.specs.declared.token.Mode.TheVariants as mode
 use Rattle.vc_lines.specs.Grammar.{Line, is_state, is_dollar_kind, is_end, are_entries, is_entry, arrow_line, line_of, line_at}
 use Rattle.vc_lines.specs.Grammar as grammar
-use Rattle.vc_lines.specs.Marks.{Mark, HasMarks, marks_of}
 use Rattle.vc_reader.specs.Meaning.{begins, ends, only, weight_of, given_by_entries}
 use Rattle.vc_reader.specs.Spelling.{AreLines, AreEntriesOver}
 use Rattle.vc_daut.proofs.EntryTokens.{weight_piece, entry_of, more_pieces, entries_spread, entries_set, entries_read, entries_good, entries_over, entries_given}
@@ -29,18 +31,18 @@ use Rattle.vc_daut.proofs.TokenTexts.{Piece, spread, marks_at, AreSet, IsSet, Is
 module _ {V : Type 0} (R : WeightSet V) (same : V → V → Bool) (canonical : V → List ℕ) where
   -- the text of a line, without its line feed
   abbrev pub body : TextLine V → List ℕ
-  body (begins_line p w) = codes "$ -> " ++ (decimal p ++ behind_state R same canonical w)
+  body (begins_line p w) = codes "$ -> " ++ (decimal p ++ after_state R same canonical w)
   body (moves_line p q ts) = decimal p ++ (codes " -> " ++ (decimal q ++ (codes " " ++ entries_text R same canonical ts)))
-  body (ends_line p w) = decimal p ++ (codes " -> $" ++ behind_state R same canonical w)
+  body (ends_line p w) = decimal p ++ (codes " -> $" ++ after_state R same canonical w)
   body (state_line p) = decimal p
 
   pub line_is_body : (t : TextLine V) → line_text R same canonical t ≡ body t ++ codes "\n"
-  line_is_body (begins_line p w) = ap (λ s. codes "$ -> " ++ s) (sym (append_assoc (decimal p) (behind_state R same canonical w) (codes "\n")))
+  line_is_body (begins_line p w) = ap (λ s. codes "$ -> " ++ s) (sym (append_assoc (decimal p) (after_state R same canonical w) (codes "\n")))
   line_is_body (moves_line p q ts) =
       let es : List ℕ = codes " " ++ entries_text R same canonical ts in
       ap (λ s. decimal p ++ (codes " -> " ++ s)) (sym (append_assoc (decimal q) es (codes "\n")))
       ∙ sym (append_assoc (decimal p) (codes " -> " ++ (decimal q ++ es)) (codes "\n"))
-  line_is_body (ends_line p w) = sym (append_assoc (decimal p) (codes " -> $" ++ behind_state R same canonical w) (codes "\n"))
+  line_is_body (ends_line p w) = sym (append_assoc (decimal p) (codes " -> $" ++ after_state R same canonical w) (codes "\n"))
   line_is_body (state_line p) = refl
 
 -- ---- the tokens of lines
@@ -134,10 +136,10 @@ module _ {V : Type 0} (R : WeightSet V) (same : V → V → Bool) (is_same : IsE
     (spelled : List ℕ → Option V) (fit : List ℕ → Bool) (canonical : V → List ℕ) (laws : TextLaws R spelled fit canonical)
     (sets : List TapeSet) (some : 1 ≤ length sets)
     (letters : (ss : List TapeSet) (w : Word) → IsOverSets ss w → IsTrue (is_of_letters w))
-    (complete : (line : List ℕ) (ms : List Mark) → HasMarks line 0 ms → marks_of line ≡ Some ms) where
+    (complete : (line : List ℕ) (ms : List Mark) → HasMarks mode.Line line 0 ms → marks_of mode.Line line ≡ Ok ms) where
   -- what is read where these tokens stand
   found : (text : List ℕ) (ps : List Piece) (l : Line) → text ≡ spread ps → AreSet ps → line_of spelled (marks_at 0 ps) ≡ Some l → line_at spelled text ≡ Some l
-  found text ps l e set is = ap (option_and_then (line_of spelled)) (line_marks complete text ps e set) ∙ is
+  found text ps l e set is = ap (λ r. option_and_then (line_of spelled) (result_ok r)) (line_marks complete text ps e set) ∙ is
 
   is_one : (w : V) → same w R.one ≡ true → w ≡ R.one
   is_one w e = (is_same w R.one).0 e
@@ -151,7 +153,7 @@ module _ {V : Type 0} (R : WeightSet V) (same : V → V → Bool) (is_same : IsE
       let place : ℕ = 0 + 0 + 1 + 1 + 2 + 1 in
       let m : Mark = record { kind = Run; text = decimal p; at = place } in
       let rest : List Mark = marks_at (place + length (decimal p)) qs in
-      let text : codes "$ -> " ++ (decimal p ++ behind_state R same canonical w) ≡ spread ps = ap (λ s. codes "$ -> " ++ (decimal p ++ s)) (sym (end_spread canonical b w)) in
+      let text : codes "$ -> " ++ (decimal p ++ after_state R same canonical w) ≡ spread ps = ap (λ s. codes "$ -> " ++ (decimal p ++ s)) (sym (end_spread canonical b w)) in
       let set : AreSet ps = (dollar_set [] _ refl, (arrow_set _, (state_set (codes " ") p (spread qs) refl (end_clear canonical b w), end_set R spelled fit canonical laws b w h))) in
       let is : line_of spelled (marks_at 0 ps) ≡ Some (grammar.initial_at m rest) =
       initial_is spelled (record { kind = Dollar; text = codes "$"; at = 0 }) m rest refl (number_plain p) (end_good R spelled fit canonical laws b (place + length (decimal p)) w h) in (
@@ -173,7 +175,7 @@ module _ {V : Type 0} (R : WeightSet V) (same : V → V → Bool) (is_same : IsE
       let m : Mark = record { kind = Run; text = decimal p; at = 0 } in
       let place : ℕ = 0 + length (decimal p) + 1 + 2 + 1 in
       let rest : List Mark = marks_at (place + 1) qs in
-      let text : decimal p ++ (codes " -> $" ++ behind_state R same canonical w) ≡ spread ps = ap (λ s. decimal p ++ (codes " -> $" ++ s)) (sym (end_spread canonical b w)) in
+      let text : decimal p ++ (codes " -> $" ++ after_state R same canonical w) ≡ spread ps = ap (λ s. decimal p ++ (codes " -> $" ++ s)) (sym (end_spread canonical b w)) in
       let set : AreSet ps = (state_set [] p _ refl (blank_is_not_plain, refl), (arrow_set _, (dollar_set (codes " ") (spread qs) refl, end_set R spelled fit canonical laws b w h))) in
       let is : line_of spelled (marks_at 0 ps) ≡ Some (grammar.final_at m rest) =
       final_is spelled m (record { kind = Dollar; text = codes "$"; at = place }) rest refl (number_plain p) refl (end_good R spelled fit canonical laws b (place + 1) w h) in (

@@ -13,7 +13,7 @@ use Rattle.vc_model.specs.Automata.{Transition}
 use Rattle.vc_model.specs.WeightSet.{WeightSet}
 use Rattle.vc_model.specs.Words.{Tape, Word}
 use Rattle.vc_ring.specs.Texts.{IsWeightByte}
-use Rattle.vc_daut.specs.Canonical.{TextLine, begins_line, moves_line, ends_line, state_line, part_text, label_text, weight_text, before_label, behind_state, entry_text, entries_text}
+use Rattle.vc_daut.specs.Canonical.{TextLine, begins_line, moves_line, ends_line, state_line, part_text, label_text, weight_text, before_label, after_state, entry_text, entries_text}
 use Rattle.vc_daut.proofs.LetterTokens.{number_plain}
 use Rattle.vc_daut.proofs.LineTokens.{body}
 use Rattle.vc_daut.proofs.ReadBack.{AreEntriesOf, IsTextLine}
@@ -112,8 +112,8 @@ module _ {V : Type 0} (R : WeightSet V) (same : V → V → Bool) (canonical : V
       go true = refl
       go false = weight_shown w
 
-  behind_shown : (w : V) → AreShown (behind_state R same canonical w)
-  behind_shown w = go (same w R.one)
+  after_shown : (w : V) → AreShown (after_state R same canonical w)
+  after_shown w = go (same w R.one)
     where
       go : (b : Bool) → AreShown (if b then [] else codes " " ++ weight_text canonical w)
       go true = refl
@@ -136,12 +136,12 @@ module _ {V : Type 0} (R : WeightSet V) (same : V → V → Bool) (canonical : V
 
     pub body_shown : (t : TextLine V) → IsTextLine R sets t → AreShown (body R same canonical t)
     body_shown (begins_line p w) h =
-        shown_append (codes "$ -> ") (decimal p ++ behind_state R same canonical w) refl (shown_append (decimal p) (behind_state R same canonical w) (number_shown p) (behind_shown w))
+        shown_append (codes "$ -> ") (decimal p ++ after_state R same canonical w) refl (shown_append (decimal p) (after_state R same canonical w) (number_shown p) (after_shown w))
     body_shown (moves_line p q ts) h =
         let es : List ℕ = codes " " ++ entries_text R same canonical ts in
         let shown : AreShown es = shown_append (codes " ") (entries_text R same canonical ts) refl (entries_shown ts h.1) in
         shown_append (decimal p) (codes " -> " ++ (decimal q ++ es)) (number_shown p)
         (shown_append (codes " -> ") (decimal q ++ es) refl (shown_append (decimal q) es (number_shown q) shown))
     body_shown (ends_line p w) h =
-        shown_append (decimal p) (codes " -> $" ++ behind_state R same canonical w) (number_shown p) (shown_append (codes " -> $") (behind_state R same canonical w) refl (behind_shown w))
+        shown_append (decimal p) (codes " -> $" ++ after_state R same canonical w) (number_shown p) (shown_append (codes " -> $") (after_state R same canonical w) refl (after_shown w))
     body_shown (state_line p) h = number_shown p

@@ -1,5 +1,5 @@
 -- The canonical text of an automaton spells it.
-use Rattle.std.proofs.Common.{◌≡◌, ℕ, ◌≤◌, ◌↔◌, true, List, length, Some}
+use Rattle.std.proofs.Common.{◌≡◌, ℕ, ◌≤◌, ◌↔◌, true, List, length, Some, Ok}
 use Rattle.std.specs.Prelude.{IsTrue}
 use Rattle.vc_aut.specs.Labelled.{Labelled}
 use Rattle.vc_aut.specs.Validity.{IsLabelled}
@@ -19,7 +19,8 @@ use Rattle.vc_ring.specs.Texts.{TextLaws, WeightTexts}
 use Rattle.vc_daut.specs.Canonical.{automaton_text}
 use Rattle.vc_lines.specs.ContextLines.{IsContextLine}
 use Rattle.vc_lines.specs.Contexts as contexts
-use Rattle.vc_lines.specs.Marks.{Mark, HasMarks, marks_of}
+use Rattle.vc_lex.specs.Marks.{Mark, HasMarks, marks_of}
+use Rattle.vc_lex.specs.declared.token.Mode.TheVariants as mode
 use Rattle.vc_reader.specs.Spelling.{SpellsAutomaton}
 use Rattle.vc_daut.proofs.WholeText.{text_reread}
 use Rattle.vc_daut.proofs.LineNames.{lines_are_valid}
@@ -27,8 +28,8 @@ use Rattle.vc_daut.proofs.SpelledLines.{respelled}
 
 pub text_spells : ((s : Alphabet) (x : ℕ) → has_letter s x ≡ true → IsTrue (is_letter x)) → ((s : Alphabet) (x : ℕ) → In x (letters_of s) ↔ (has_letter s x ≡ true))
     → ((ss : List TapeSet) (w : Word) → IsOverSets ss w → IsTrue (is_of_letters w))
-    → ((line text : List ℕ) → contexts.context_text line ≡ Some text → IsContextLine line text)
-    → ((line : List ℕ) (ms : List Mark) → HasMarks line 0 ms → marks_of line ≡ Some ms)
+    → ((line text : List ℕ) → contexts.context_in_line line ≡ Some text → IsContextLine line text)
+    → ((line : List ℕ) (ms : List Mark) → HasMarks mode.Line line 0 ms → marks_of mode.Line line ≡ Ok ms)
     → ((sets : List TapeSet) (weights : Weights) → 1 ≤ length sets → length sets ≤ 4 → SpellsContext (context_text sets weights) sets weights)
     → {V : Type 0} (T : WeightTexts V) → SemiringLaws T.set → IsEqualityTest T.same → TextLaws T.set T.spelled T.numbers_fit T.canonical
     → (a : Labelled V) (weights : Weights) → 1 ≤ length a.sets → length a.sets ≤ 4 → IsLabelled T.set a → IsAutomaton T.set (length a.sets) a.automaton

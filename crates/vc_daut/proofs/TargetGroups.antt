@@ -135,14 +135,14 @@ below_all : {V : Type 0} (q r : ℕ) (ts : List (Transition V)) → r ≤ q → 
 below_all q r [] l h = refl
 below_all q r (t ∷ ts) l h = left_at (t.to == r) t (to_state r ts) (other_number t.to r (λ e. absurd (omega (arith, h.0, e)))) ∙ below_all q r ts l h.1
 
-behind : {V : Type 0} (p s k q : ℕ) (g rest : List (Transition V)) → q < s → AreTo q g
+after : {V : Type 0} (p s k q : ℕ) (g rest : List (Transition V)) → q < s → AreTo q g
     → flat_map (λ r. line_to p r (to_state r (g ++ rest))) (up_from s k) ≡ flat_map (λ r. line_to p r (to_state r rest)) (up_from s k)
-behind p s zero q g rest l h = refl
-behind p s (suc k) q g rest l h =
+after p s zero q g rest l h = refl
+after p s (suc k) q g rest l h =
     let none : to_state s (g ++ rest) ≡ to_state s rest =
     filter-append (λ t. t.to == s) g rest ∙ ap (λ us. us ++ to_state s rest) (elsewhere q s g (λ e. absurd (omega (arith, e))) h) in
     ap (λ ts. line_to p s ts ++ flat_map (λ r. line_to p r (to_state r (g ++ rest))) (up_from (suc s) k)) none
-    ∙ ap (λ ls. line_to p s (to_state s rest) ++ ls) (behind p (suc s) k q g rest (omega arith) h)
+    ∙ ap (λ ls. line_to p s (to_state s rest) ++ ls) (after p (suc s) k q g rest (omega arith) h)
 
 -- lines of a group in front of lines of what is left
 abbrev AreSplit : {V : Type 0} → ℕ → ℕ → ℕ → ℕ → List (Transition V) → List (Transition V) → Type 0
@@ -153,7 +153,7 @@ split_here p k q g rest h a =
     let mine : to_state q (g ++ rest) ≡ g =
     filter-append (λ t. t.to == q) g rest ∙ ap (λ us. us ++ to_state q rest) (here q g h) ∙ ap (λ us. g ++ us) (below_all q q rest (omega arith) a) ∙ append-nil g in
     ap (λ ts. line_to p q ts ++ flat_map (λ r. line_to p r (to_state r (g ++ rest))) (up_from (suc q) k)) mine
-    ∙ ap (λ ls. line_to p q g ++ ls) (behind p (suc q) k q g rest (omega arith) h)
+    ∙ ap (λ ls. line_to p q g ++ ls) (after p (suc q) k q g rest (omega arith) h)
     ∙ ap (λ ts. line_to p q g ++ (line_to p q ts ++ flat_map (λ r. line_to p r (to_state r rest)) (up_from (suc q) k))) (sym (below_all q q rest (omega arith) a))
 
 split_from : {V : Type 0} (p s k q d : ℕ) (g rest : List (Transition V)) → s + d ≡ q → d < k → AreTo q g → AreAbove q rest → AreSplit p s k q g rest

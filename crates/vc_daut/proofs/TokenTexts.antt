@@ -1,5 +1,5 @@
 -- Texts that are tokens with blanks before them.
-use Rattle.std.proofs.Common.{◌≡◌, ℕ, ◌+◌, ◌-◌, Bool, true, false, ◌&&◌, ◌==◌, cond, List, [], ◌∷◌, ◌++◌, length, take, drop, Some, refl, ap, sym, ◌∙◌, subst, inl, inr, arith, add-zero, append_assoc, length-append}
+use Rattle.std.proofs.Common.{◌≡◌, ℕ, ◌+◌, ◌-◌, Bool, true, false, ◌&&◌, ◌==◌, cond, List, [], ◌∷◌, ◌++◌, length, take, drop, Ok, refl, ap, sym, ◌∙◌, subst, inl, inr, arith, add-zero, append_assoc, length-append}
 use Rattle.std.specs.Prelude.{⊤}
 use Rattle.std.specs.List.{prefix_len, list_all}
 use Rattle.std.proofs.Math.Seq.{take-append_seam, drop-append_seam}
@@ -10,7 +10,7 @@ use Rattle.vc_text.specs.Blanks.{is_blank}
 use Rattle.vc_lex.specs.declared.token.Mode.TheVariants.{Line}
 use Rattle.vc_lex.specs.declared.token.TokenKind.{TokenKind}
 use Rattle.vc_lex.specs.declared.token.TokenKind.TheVariants.{Run}
-use Rattle.vc_lines.specs.Marks.{Mark, IsNext, HasMarks, next_at, marks_of}
+use Rattle.vc_lex.specs.Marks.{Mark, IsNext, HasMarks, next_at, marks_of}
 
 -- a token, with the blanks before it
 pub record Piece : Type 0 where
@@ -46,8 +46,8 @@ AreSet (p ∷ ps) = IsSet p (spread ps) × AreSet ps
 drop_twice : (i j : ℕ) (s : List ℕ) → drop j (drop i s) ≡ drop (i + j) s
 drop_twice i j s = grind (arith, common_steps)
 
-behind : (line a b : List ℕ) (n : ℕ) → drop n line ≡ a ++ b → drop (n + length a) line ≡ b
-behind line a b n e = sym (drop_twice n (length a) line) ∙ ap (drop (length a)) e ∙ drop-append_seam a b
+after : (line a b : List ℕ) (n : ℕ) → drop n line ≡ a ++ b → drop (n + length a) line ≡ b
+after line a b n e = sym (drop_twice n (length a) line) ∙ ap (drop (length a)) e ∙ drop-append_seam a b
 
 begins_with_it : (text rest : List ℕ) (kind : TokenKind) → IsTokenText kind Line text → EndsBefore kind rest → BeginsToken Line (text ++ rest) kind (length text)
 begins_with_it text rest kind token ends = record {
@@ -57,29 +57,29 @@ begins_with_it text rest kind token ends = record {
 }
 
 next_is : (line : List ℕ) (at : ℕ) (p : Piece) (rest : List ℕ) → drop at line ≡ p.blanks ++ (p.text ++ rest) → IsSet p rest
-    → IsNext line at (record { kind = p.kind; text = p.text; at = at + length p.blanks })
+    → IsNext Line line at (record { kind = p.kind; text = p.text; at = at + length p.blanks })
 next_is line at p rest e is =
     let place : next_at line at ≡ at + length p.blanks = ap (λ s. at + prefix_len is_blank s) e ∙ ap (λ n. at + n) is.blanks in
-    let here : drop (at + length p.blanks) line ≡ p.text ++ rest = behind line p.blanks (p.text ++ rest) at e in
+    let here : drop (at + length p.blanks) line ≡ p.text ++ rest = after line p.blanks (p.text ++ rest) at e in
     let width : (at + length p.blanks + length p.text) - (at + length p.blanks) ≡ length p.text = omega arith in
     record {
       place = sym place;
       begins = subst (λ s. BeginsToken Line s p.kind (length p.text)) (sym (ap (λ n. drop n line) place ∙ here)) (begins_with_it p.text rest p.kind is.token is.ends);
-      text = sym (ap (λ n. take n (drop (at + length p.blanks) line)) width ∙ ap (take (length p.text)) here ∙ take-append_seam p.text rest);
+      slice = sym (ap (λ n. take n (drop (at + length p.blanks) line)) width ∙ ap (take (length p.text)) here ∙ take-append_seam p.text rest);
     }
 
 -- a line has the marks of the tokens that stand in it
-pub marks_laid : (line : List ℕ) (at : ℕ) (ps : List Piece) → drop at line ≡ spread ps → AreSet ps → HasMarks line at (marks_at at ps)
+pub marks_laid : (line : List ℕ) (at : ℕ) (ps : List Piece) → drop at line ≡ spread ps → AreSet ps → HasMarks Line line at (marks_at at ps)
 marks_laid line at [] e h =
     inl (ap (λ s. drop (at + prefix_len is_blank s) line) e ∙ ap (λ n. drop n line) (add-zero at) ∙ e)
 marks_laid line at (p ∷ ps) e (is, h) =
-    let here : drop (at + length p.blanks) line ≡ p.text ++ spread ps = behind line p.blanks (p.text ++ spread ps) at e in
-    let next : drop (at + length p.blanks + length p.text) line ≡ spread ps = behind line p.text (spread ps) (at + length p.blanks) here in
+    let here : drop (at + length p.blanks) line ≡ p.text ++ spread ps = after line p.blanks (p.text ++ spread ps) at e in
+    let next : drop (at + length p.blanks + length p.text) line ≡ spread ps = after line p.text (spread ps) (at + length p.blanks) here in
     (next_is line at p (spread ps) e is, marks_laid line (at + length p.blanks + length p.text) ps next h)
 
 -- and they are the tokens of the line
-pub line_marks : ((line : List ℕ) (ms : List Mark) → HasMarks line 0 ms → marks_of line ≡ Some ms)
-    → (line : List ℕ) (ps : List Piece) → line ≡ spread ps → AreSet ps → marks_of line ≡ Some (marks_at 0 ps)
+pub line_marks : ((line : List ℕ) (ms : List Mark) → HasMarks Line line 0 ms → marks_of Line line ≡ Ok ms)
+    → (line : List ℕ) (ps : List Piece) → line ≡ spread ps → AreSet ps → marks_of Line line ≡ Ok (marks_at 0 ps)
 line_marks complete line ps e h = complete line (marks_at 0 ps) (marks_laid line 0 ps e h)
 
 -- ---- tokens one after another

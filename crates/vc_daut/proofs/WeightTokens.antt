@@ -11,7 +11,7 @@ use Rattle.vc_lex.specs.declared.token.TokenKind.TheVariants.{Weight}
 use Rattle.vc_model.specs.WeightSet.{WeightSet}
 use Rattle.vc_ring.specs.Texts.{TextLaws, IsWeightByte}
 use Rattle.vc_daut.specs.Canonical.{weight_text}
-use Rattle.vc_lines.specs.Grammar.{inside}
+use Rattle.vc_text.specs.Escapes.{inside}
 
 -- a text in brackets is read back
 pub inside_between : (first last : ℕ) (s : List ℕ) → inside (first ∷ (s ++ last ∷ [])) ≡ s

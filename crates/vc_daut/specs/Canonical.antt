@@ -87,8 +87,8 @@ module _ {V : Type 0} (R : WeightSet V) (same : V → V → Bool) where
     before_label w = if same w R.one then [] else weight_text canonical w
 
     -- the weight of a state, with a blank before it; one is not written
-    abbrev pub behind_state : V → List ℕ
-    behind_state w = if same w R.one then [] else codes " " ++ weight_text canonical w
+    abbrev pub after_state : V → List ℕ
+    after_state w = if same w R.one then [] else codes " " ++ weight_text canonical w
 
     -- an entry: the weight, and the label
     abbrev pub entry_text : Transition V → List ℕ
@@ -100,9 +100,9 @@ module _ {V : Type 0} (R : WeightSet V) (same : V → V → Bool) where
 
     -- states are written by their numbers
     abbrev pub line_text : TextLine V → List ℕ
-    line_text (begins_line p w) = codes "$ -> " ++ (decimal p ++ fed (behind_state w))
+    line_text (begins_line p w) = codes "$ -> " ++ (decimal p ++ fed (after_state w))
     line_text (moves_line p q ts) = decimal p ++ (codes " -> " ++ (decimal q ++ (codes " " ++ fed (entries_text ts))))
-    line_text (ends_line p w) = decimal p ++ (codes " -> $" ++ fed (behind_state w))
+    line_text (ends_line p w) = decimal p ++ (codes " -> $" ++ fed (after_state w))
     line_text (state_line p) = fed (decimal p)
 
 -- the context line, and the lines of the automaton

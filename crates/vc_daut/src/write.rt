@@ -2,7 +2,7 @@ ghost use Rattle.std.specs.Prelude.{◌≡◌, ◌<◌, ◌++◌, ◌==◌, ℕ,
 ghost use Rattle.std.specs.List.{flat_map, list_any};
 ghost use Rattle.std.specs.List.Sorted.{IsNonDecreasingBy};
 ghost use Rattle.vc_context.specs.Sets.{tapes_of};
-ghost use Rattle.vc_daut.specs.Canonical.{behind_state, fed, line_text, moves_line, initial_line, final_line, transition_lines, lone_line, is_in_lines, state_lines, automaton_text, lines_by_target};
+ghost use Rattle.vc_daut.specs.Canonical.{after_state, fed, line_text, moves_line, initial_line, final_line, transition_lines, lone_line, is_in_lines, state_lines, automaton_text, lines_by_target};
 ghost use Rattle.vc_text.specs.Growing.{IsFront};
 ghost use Rattle.vc_daut.specs.Growing.{IsEntry, lent};
 ghost use Rattle.vc_model.specs.Lists.{below};
@@ -18,9 +18,9 @@ use vc_text::{cut_back, push_number, push_text};
 
 /// Appends the weight of a state, with a blank before it; one is not written.
 #[tactic(auto, using(vc_text::specs::Fronts::front_twice))]
-fn push_behind<S: Semiring>(weight: S::Value, into: &mut String) -> Result<(), AllocError>
+fn push_after_state<S: Semiring>(weight: S::Value, into: &mut String) -> Result<(), AllocError>
     requires { IsTrue (S.set.in_range weight) }
-    ensures ok { OnOk result (string_bytes into.new ≡ string_bytes into.old ++ behind_state S.set S.Value.eq S.canonical weight) }
+    ensures ok { OnOk result (string_bytes into.new ≡ string_bytes into.old ++ after_state S.set S.Value.eq S.canonical weight) }
     ensures front { IsFront (string_bytes into.old) (string_bytes into.new) }
 {
     if weight == S::one() {
@@ -34,10 +34,10 @@ fn push_behind<S: Semiring>(weight: S::Value, into: &mut String) -> Result<(), A
 #[tactic(auto, using(vc_text::specs::Fronts::front_twice))]
 fn push_end<S: Semiring>(weight: S::Value, into: &mut String) -> Result<(), AllocError>
     requires { IsTrue (S.set.in_range weight) }
-    ensures ok { OnOk result (string_bytes into.new ≡ string_bytes into.old ++ fed (behind_state S.set S.Value.eq S.canonical weight)) }
+    ensures ok { OnOk result (string_bytes into.new ≡ string_bytes into.old ++ fed (after_state S.set S.Value.eq S.canonical weight)) }
     ensures front { IsFront (string_bytes into.old) (string_bytes into.new) }
 {
-    push_behind::<S>(weight, into)?;
+    push_after_state::<S>(weight, into)?;
     push_text("\n", into)
 }
 

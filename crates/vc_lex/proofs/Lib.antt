@@ -7,3 +7,5 @@ pub mod Begun
 pub mod Sound
 pub mod Fitting
 pub mod Complete
+pub mod TokenLists
+pub mod NextToken

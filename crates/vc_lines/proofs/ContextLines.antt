@@ -15,7 +15,7 @@ use Rattle.vc_lex.specs.declared.scan.Scan.{Scan}
 use Rattle.vc_lex.specs.declared.scan.Scan.TheVariants.{End, Bad, Found}
 use Rattle.vc_lex.specs.declared.token.Mode.TheVariants.{Line}
 use Rattle.vc_lines.specs.ContextLines.{BeginsBlank, BeginsQuote, BeginsComment, IsEnd, IsRest, IsQuoted, IsAlone, IsContextLine, Passes}
-use Rattle.vc_lines.specs.Contexts.{before, begins_comment, begins_quote, behind, context_text, quoted, value_text}
+use Rattle.vc_lines.specs.Contexts.{before, begins_comment, begins_quote, after_front, context_in_line, quoted, value_text}
 use Rattle.vc_lines.specs.Heads.{is_blank_line, is_end}
 use Rattle.vc_lines.proofs.Stops.{before_passed, cut_at}
 
@@ -154,8 +154,8 @@ comment_agrees s = (found s, begun s)
     begun s (rest, inr e) = ap begins_comment e
 
 -- the text in front of the place where another is cut
-taken : (s text behind : List ℕ) (n : ℕ) → s ≡ text ++ behind → n ≡ length text → take n s ≡ text
-taken s text behind n e f = ap₂ take f e ∙ take-append_seam text behind
+taken : (s text after : List ℕ) (n : ℕ) → s ≡ text ++ after → n ≡ length text → take n s ≡ text
+taken s text after n e f = ap₂ take f e ∙ take-append_seam text after
 
 -- ---- a text in double quotes
 
@@ -177,21 +177,21 @@ module _ (follows : (s : List ℕ) → Follows Line s (token_at Line s)) where
           let n : ℕ = before begins_quote s in
           let c = cut_at begins_quote BeginsQuote quote_agrees s in
           let p = and_parts (nat_lt n (length s)) (is_blank_line (drop (n + 1) s)) f in
-          let same : c.text ≡ text = sym (taken s c.text c.behind n c.whole c.count) ∙ some_same (take n s) text g in
-          let whole : s ≡ text ++ c.behind = c.whole ∙ ap (λ t. t ++ c.behind) same in
+          let same : c.text ≡ text = sym (taken s c.text c.after n c.whole c.count) ∙ some_same (take n s) text g in
+          let whole : s ≡ text ++ c.after = c.whole ∙ ap (λ t. t ++ c.after) same in
           let count : n ≡ length text = c.count ∙ ap length same in
-          let q = closed c.behind n whole count (ltb-true n (length s) p.0) c.stopped in
+          let q = closed c.after n whole count (ltb-true n (length s) p.0) c.stopped in
           let all : s ≡ text ++ (34 ∷ q.0) = whole ∙ ap (λ t. text ++ t) q.1 in
           let rest : drop (n + 1) s ≡ q.0 = ap₂ (λ k t. drop (k + 1) t) count all ∙ drop-append-add text (34 ∷ q.0) 1 in
           record {
-            behind = q.0;
+            after = q.0;
             value_is = ap (λ t. 34 ∷ t) all;
-            passes = subst (λ t. Passes BeginsQuote text t) q.1 (subst (λ t. Passes BeginsQuote t c.behind) same c.passes);
+            passes = subst (λ t. Passes BeginsQuote text t) q.1 (subst (λ t. Passes BeginsQuote t c.after) same c.passes);
             rest = rest_sound follows q.0 (sym (ap is_blank_line rest) ∙ p.1);
           }
 
   value_sound : (value text : List ℕ) → (BeginsBlank value → ⊥) → value_text value ≡ Some text → IsQuoted value text ⊎ IsAlone value text
-  value_sound [] text n e = inr (record { behind = []; value_is = some_same [] text e ∙ sym (append-nil text); no_blank = n; no_quote = no_quote; passes = ([], sym (some_same [] text e), tt); is_end = inl refl })
+  value_sound [] text n e = inr (record { after = []; value_is = some_same [] text e ∙ sym (append-nil text); no_blank = n; no_quote = no_quote; passes = ([], sym (some_same [] text e), tt); is_end = inl refl })
     where
       no_quote : BeginsQuote [] → ⊥
       no_quote (rest, e) = cc e
@@ -209,36 +209,36 @@ module _ (follows : (s : List ℕ) → Follows Line s (token_at Line s)) where
       go false f g =
           let m : ℕ = before begins_comment (x ∷ s) in
           let c = cut_at begins_comment BeginsComment comment_agrees (x ∷ s) in
-          let same : c.text ≡ text = sym (taken (x ∷ s) c.text c.behind m c.whole c.count) ∙ some_same (take m (x ∷ s)) text g in
+          let same : c.text ≡ text = sym (taken (x ∷ s) c.text c.after m c.whole c.count) ∙ some_same (take m (x ∷ s)) text g in
           inr (record {
-            behind = c.behind;
-            value_is = c.whole ∙ ap (λ t. t ++ c.behind) same;
+            after = c.after;
+            value_is = c.whole ∙ ap (λ t. t ++ c.after) same;
             no_blank = n;
             no_quote = other f;
-            passes = subst (λ t. Passes BeginsComment t c.behind) same c.passes;
-            is_end = stop c.behind c.stopped;
+            passes = subst (λ t. Passes BeginsComment t c.after) same c.passes;
+            is_end = stop c.after c.stopped;
           })
 
 module _ (ends : (s : List ℕ) → IsEnd s → token_at Line s ≡ End) where
-  quoted_complete : (text behind : List ℕ) → Passes BeginsQuote text (34 ∷ behind) → IsRest behind → quoted (text ++ 34 ∷ behind) ≡ Some text
-  quoted_complete text behind p r =
-      let s : List ℕ = text ++ 34 ∷ behind in
-      let end : before begins_quote s ≡ length text = before_passed begins_quote BeginsQuote quote_agrees text (34 ∷ behind) p (inr refl) in
-      let within : nat_lt (length text) (length s) ≡ true = lt-ltb (length text) (length s) (omega (arith, length-append text (34 ∷ behind))) in
-      let rest : is_blank_line (drop (length text + 1) s) ≡ true = ap is_blank_line (drop-append-add text (34 ∷ behind) 1) ∙ rest_complete ends behind r in
+  quoted_complete : (text after : List ℕ) → Passes BeginsQuote text (34 ∷ after) → IsRest after → quoted (text ++ 34 ∷ after) ≡ Some text
+  quoted_complete text after p r =
+      let s : List ℕ = text ++ 34 ∷ after in
+      let end : before begins_quote s ≡ length text = before_passed begins_quote BeginsQuote quote_agrees text (34 ∷ after) p (inr refl) in
+      let within : nat_lt (length text) (length s) ≡ true = lt-ltb (length text) (length s) (omega (arith, length-append text (34 ∷ after))) in
+      let rest : is_blank_line (drop (length text + 1) s) ≡ true = ap is_blank_line (drop-append-add text (34 ∷ after) 1) ∙ rest_complete ends after r in
       ap (λ n. if nat_lt n (length s) && is_blank_line (drop (n + 1) s) then Some (take n s) else None) end
       ∙ ap₂ (λ a b. if a && b then Some (take (length text) s) else None) within rest
-      ∙ ap Some (take-append_seam text (34 ∷ behind))
+      ∙ ap Some (take-append_seam text (34 ∷ after))
 
   alone_complete : (value text : List ℕ) → IsAlone value text → value_text value ≡ Some text
-  alone_complete value text a = go value (λ q. a.no_quote q) (sym (taken value text a.behind (before begins_comment value) a.value_is count))
+  alone_complete value text a = go value (λ q. a.no_quote q) (sym (taken value text a.after (before begins_comment value) a.value_is count))
     where
       stop : (c : List ℕ) → IsEnd c → (c ≡ []) ⊎ (begins_comment c ≡ true)
       stop c (inl e) = inl e
       stop c (inr h) = inr ((comment_agrees c).1 h)
 
       count : before begins_comment value ≡ length text
-      count = ap (before begins_comment) a.value_is ∙ before_passed begins_comment BeginsComment comment_agrees text a.behind a.passes (stop a.behind a.is_end)
+      count = ap (before begins_comment) a.value_is ∙ before_passed begins_comment BeginsComment comment_agrees text a.after a.passes (stop a.after a.is_end)
 
       go : (v : List ℕ) → (BeginsQuote v → ⊥) → text ≡ take (before begins_comment v) v → value_text v ≡ Some text
       go [] n e = ap Some (sym e)
@@ -247,12 +247,12 @@ module _ (ends : (s : List ℕ) → IsEnd s → token_at Line s ≡ End) where
           ∙ ap Some (sym e)
 
   value_complete : (value text : List ℕ) → IsQuoted value text ⊎ IsAlone value text → value_text value ≡ Some text
-  value_complete value text (inl q) = ap value_text q.value_is ∙ quoted_complete text q.behind q.passes q.rest
+  value_complete value text (inl q) = ap value_text q.value_is ∙ quoted_complete text q.after q.passes q.rest
   value_complete value text (inr a) = alone_complete value text a
 
 value_unblank : (value text : List ℕ) → IsQuoted value text ⊎ IsAlone value text → BeginsBlank value → ⊥
 value_unblank value text (inl q) (y, rest, is, e) =
-    let f : y ∷ rest ≡ 34 ∷ (text ++ (34 ∷ q.behind)) = sym e ∙ q.value_is in
+    let f : y ∷ rest ≡ 34 ∷ (text ++ (34 ∷ q.after)) = sym e ∙ q.value_is in
     let g : y ≡ 34 = cc in
     cc (sym is ∙ ap is_blank g)
 value_unblank value text (inr a) b = a.no_blank b
@@ -260,8 +260,8 @@ value_unblank value text (inr a) b = a.no_blank b
 -- ---- the line
 
 -- a text begins with a front where it is cut after it
-cut_behind : (front s rest : List ℕ) → behind front s ≡ Some rest → s ≡ front ++ rest
-cut_behind front s rest e = go (bytes_eq (take (length front) s) front) refl e
+cut_front : (front s rest : List ℕ) → after_front front s ≡ Some rest → s ≡ front ++ rest
+cut_front front s rest e = go (bytes_eq (take (length front) s) front) refl e
   where
     go : (b : Bool) → bytes_eq (take (length front) s) front ≡ b → (if b then Some (drop (length front) s) else None) ≡ Some rest → s ≡ front ++ rest
     go false f g = cc g
@@ -275,17 +275,17 @@ then_parts f None text e = cc e
 then_parts f (Some s) text e = (s, refl, e)
 
 -- the context text that is read is that of the grammar
-pub context_sound : ((s : List ℕ) → Follows Line s (token_at Line s)) → (line text : List ℕ) → context_text line ≡ Some text → IsContextLine line text
+pub context_sound : ((s : List ℕ) → Follows Line s (token_at Line s)) → (line text : List ℕ) → context_in_line line ≡ Some text → IsContextLine line text
 context_sound follows line text e =
     let after_equals : List ℕ → Option (List ℕ) = λ t. value_text (after_blanks t) in
-    let after_word : List ℕ → Option (List ℕ) = λ s. option_and_then after_equals (behind (codes "=") (after_blanks s)) in
-    let word = then_parts after_word (behind (codes "context") (after_blanks line)) text e in
-    let equals = then_parts after_equals (behind (codes "=") (after_blanks word.0)) text word.2 in
+    let after_word : List ℕ → Option (List ℕ) = λ s. option_and_then after_equals (after_front (codes "=") (after_blanks s)) in
+    let word = then_parts after_word (after_front (codes "context") (after_blanks line)) text e in
+    let equals = then_parts after_equals (after_front (codes "=") (after_blanks word.0)) text word.2 in
     let u = unblanked line in
     let v = unblanked word.0 in
     let w = unblanked equals.0 in
-    let c : after_blanks line ≡ codes "context" ++ word.0 = cut_behind (codes "context") (after_blanks line) word.0 word.1 in
-    let d : after_blanks word.0 ≡ codes "=" ++ equals.0 = cut_behind (codes "=") (after_blanks word.0) equals.0 equals.1 in
+    let c : after_blanks line ≡ codes "context" ++ word.0 = cut_front (codes "context") (after_blanks line) word.0 word.1 in
+    let d : after_blanks word.0 ≡ codes "=" ++ equals.0 = cut_front (codes "=") (after_blanks word.0) equals.0 equals.1 in
     let value : List ℕ = after_blanks equals.0 in
     record {
       before_word = u.blanks;
@@ -301,14 +301,14 @@ context_sound follows line text e =
     }
 
 -- and each context text of the grammar is read
-pub context_complete : ((s : List ℕ) → IsEnd s → token_at Line s ≡ End) → (line text : List ℕ) → IsContextLine line text → context_text line ≡ Some text
+pub context_complete : ((s : List ℕ) → IsEnd s → token_at Line s ≡ End) → (line text : List ℕ) → IsContextLine line text → context_in_line line ≡ Some text
 context_complete ends line text c =
     let after_equals : List ℕ → Option (List ℕ) = λ t. value_text (after_blanks t) in
-    let after_word : List ℕ → Option (List ℕ) = λ s. option_and_then after_equals (behind (codes "=") (after_blanks s)) in
+    let after_word : List ℕ → Option (List ℕ) = λ s. option_and_then after_equals (after_front (codes "=") (after_blanks s)) in
     let third : List ℕ = c.before_value ++ c.value in
     let second : List ℕ = c.before_equals ++ (codes "=" ++ third) in
-    ap context_text c.line_is
-    ∙ ap (λ t. option_and_then after_word (behind (codes "context") t)) (blanks_cut c.before_word (codes "context" ++ second) c.blanks_before_word (begun_blank 99 (codes "ontext" ++ second) refl))
-    ∙ ap (λ t. option_and_then after_equals (behind (codes "=") t)) (blanks_cut c.before_equals (codes "=" ++ third) c.blanks_before_equals (begun_blank 61 third refl))
+    ap context_in_line c.line_is
+    ∙ ap (λ t. option_and_then after_word (after_front (codes "context") t)) (blanks_cut c.before_word (codes "context" ++ second) c.blanks_before_word (begun_blank 99 (codes "ontext" ++ second) refl))
+    ∙ ap (λ t. option_and_then after_equals (after_front (codes "=") t)) (blanks_cut c.before_equals (codes "=" ++ third) c.blanks_before_equals (begun_blank 61 third refl))
     ∙ ap value_text (blanks_cut c.before_value c.value c.blanks_before_value (value_unblank c.value text c.is_value))
     ∙ value_complete ends c.value text c.is_value

@@ -1,10 +1,10 @@
 -- Entries with commas between them.
-use Rattle.std.proofs.Common.{◌≡◌, ◌<◌, ◌≤◌, ◌+◌, ◌-◌, ◌^◌, ℕ, zero, suc, not, cond, List, [], ◌∷◌, ◌++◌, length, map, take, drop, Option, None, refl, ap, ap₂, sym, ◌∙◌, arith}
+use Rattle.std.proofs.Common.{◌≡◌, ◌<◌, ◌≤◌, ◌+◌, ◌-◌, ℕ, zero, suc, not, cond, List, [], ◌∷◌, length, map, take, drop, Option, None, refl, ap, ap₂, sym, ◌∙◌, arith}
 use Rattle.std.specs.List.{prefix_len}
 use Rattle.std.proofs.lemmas.List.{take_all, length-drop, take-map, drop-map}
 use Rattle.vc_lex.specs.declared.token.Token.{Token}
+use Rattle.vc_lex.specs.Views.{seen, AreFit}
 use Rattle.vc_lines.specs.Grammar.{is_comma_kind, is_comma, entries_of, line_of}
-use Rattle.vc_lines.specs.Views.{seen, AreFit}
 use Rattle.vc_lines.proofs.Pieces.{before_mark, pieces_cut, pieces_whole}
 
 before_comma : (ts : List Token) → before_mark is_comma (map seen ts) ≡ prefix_len (λ t. not (is_comma_kind t.kind)) ts
@@ -48,7 +48,3 @@ pub fit_drop : (n : ℕ) (ts : List Token) → AreFit ts → AreFit (drop n ts)
 fit_drop zero ts h = h
 fit_drop (suc n) [] h = tt
 fit_drop (suc n) (t ∷ ts) h = fit_drop n ts h.1
-
-pub fit_more : (ts : List Token) (t : Token) → AreFit ts → t.at + length t.text.now < 2 ^ 64 → AreFit (ts ++ t ∷ [])
-fit_more [] t h k = (k, tt)
-fit_more (u ∷ ts) t h k = (h.0, fit_more ts t h.1 k)

@@ -25,27 +25,27 @@ module _ (stops : List ℕ → Bool) (Stops : List ℕ → Type 0) (agree : (s :
   -- a text, cut where it is stopped
   pub record IsCutAt (s : List ℕ) (n : ℕ) : Type 0 where
     pub text : List ℕ
-    pub behind : List ℕ
-    pub whole : s ≡ text ++ behind
+    pub after : List ℕ
+    pub whole : s ≡ text ++ after
     pub count : n ≡ length text
-    pub passes : Passes Stops text behind
-    pub stopped : (behind ≡ []) ⊎ (stops behind ≡ true)
+    pub passes : Passes Stops text after
+    pub stopped : (after ≡ []) ⊎ (stops after ≡ true)
 
   goes_on : (s : List ℕ) → stops s ≡ false → Stops s → ⊥
   goes_on s e h = let t : stops s ≡ true = (agree s).1 h in cc (sym e ∙ t)
 
   cut_here : (s : List ℕ) → (s ≡ []) ⊎ (stops s ≡ true) → IsCutAt s 0
-  cut_here s h = record { text = []; behind = s; whole = refl; count = refl; passes = ([], refl, tt); stopped = h }
+  cut_here s h = record { text = []; after = s; whole = refl; count = refl; passes = ([], refl, tt); stopped = h }
 
   -- one piece more in front
   cut_more : (piece s : List ℕ) (n : ℕ) → IsPiece piece s → stops (piece ++ s) ≡ false → IsCutAt s n → IsCutAt (piece ++ s) (length piece + n)
   cut_more piece s n is e c =
       let p = c.passes in
-      let w : s ≡ joined p.0 ++ c.behind = c.whole ∙ ap (λ t. t ++ c.behind) p.1 in
+      let w : s ≡ joined p.0 ++ c.after = c.whole ∙ ap (λ t. t ++ c.after) p.1 in
       record {
         text = piece ++ c.text;
-        behind = c.behind;
-        whole = ap (λ t. piece ++ t) c.whole ∙ sym (append_assoc piece c.text c.behind);
+        after = c.after;
+        whole = ap (λ t. piece ++ t) c.whole ∙ sym (append_assoc piece c.text c.after);
         count = ap (λ k. length piece + k) c.count ∙ sym (length-append piece c.text);
         passes = (
           piece ∷ p.0,
@@ -90,17 +90,17 @@ module _ (stops : List ℕ → Bool) (Stops : List ℕ → Type 0) (agree : (s :
   piece_passed piece s (inr (x, e, no_letter)) =
       subst (λ (p : List ℕ). stops (p ++ s) ≡ false → before stops (p ++ s) ≡ length p + before stops s) (sym e) (byte_passed x s no_letter)
 
-  pieces_passed : (pieces : List (List ℕ)) (behind : List ℕ) → ArePieces Stops pieces behind → (behind ≡ []) ⊎ (stops behind ≡ true)
-      → before stops (joined pieces ++ behind) ≡ length (joined pieces)
-  pieces_passed [] behind a (inl e) = ap (before stops) e
-  pieces_passed [] behind a (inr e) = none_before stops behind e
-  pieces_passed (piece ∷ pieces) behind (is, free, a) h =
-      let s : List ℕ = joined pieces ++ behind in
-      ap (before stops) (append_assoc piece (joined pieces) behind)
+  pieces_passed : (pieces : List (List ℕ)) (after : List ℕ) → ArePieces Stops pieces after → (after ≡ []) ⊎ (stops after ≡ true)
+      → before stops (joined pieces ++ after) ≡ length (joined pieces)
+  pieces_passed [] after a (inl e) = ap (before stops) e
+  pieces_passed [] after a (inr e) = none_before stops after e
+  pieces_passed (piece ∷ pieces) after (is, free, a) h =
+      let s : List ℕ = joined pieces ++ after in
+      ap (before stops) (append_assoc piece (joined pieces) after)
       ∙ piece_passed piece s is (false_from_ne_true (stops (piece ++ s)) (λ t. free ((agree (piece ++ s)).0 t)))
-      ∙ ap (λ k. length piece + k) (pieces_passed pieces behind a h)
+      ∙ ap (λ k. length piece + k) (pieces_passed pieces after a h)
       ∙ sym (length-append piece (joined pieces))
 
   -- where nothing stops a text before its end, as many bytes stand there as it has
-  pub before_passed : (text behind : List ℕ) → Passes Stops text behind → (behind ≡ []) ⊎ (stops behind ≡ true) → before stops (text ++ behind) ≡ length text
-  before_passed text behind p h = subst (λ (t : List ℕ). before stops (t ++ behind) ≡ length t) (sym p.1) (pieces_passed p.0 behind p.2 h)
+  pub before_passed : (text after : List ℕ) → Passes Stops text after → (after ≡ []) ⊎ (stops after ≡ true) → before stops (text ++ after) ≡ length text
+  before_passed text after p h = subst (λ (t : List ℕ). before stops (t ++ after) ≡ length t) (sym p.1) (pieces_passed p.0 after p.2 h)

@@ -27,17 +27,17 @@ BeginsEscapedLetter text = (letter rest : List ℕ) × IsEscapedLetter letter ×
 
 -- an escaped letter, or one byte at which none begins, where this text stands after it
 abbrev pub IsPiece : List ℕ → List ℕ → Type 0
-IsPiece piece behind = IsEscapedLetter piece ⊎ ((x : ℕ) × (piece ≡ x ∷ []) × (BeginsEscapedLetter (x ∷ behind) → ⊥))
+IsPiece piece after = IsEscapedLetter piece ⊎ ((x : ℕ) × (piece ≡ x ∷ []) × (BeginsEscapedLetter (x ∷ after) → ⊥))
 
 -- the pieces of a text that this text stands after; at none of them what stops it begins
 abbrev pub ArePieces : (List ℕ → Type 0) → List (List ℕ) → List ℕ → Type 0
-ArePieces Stops [] behind = ⊤
-ArePieces Stops (piece ∷ pieces) behind =
-    IsPiece piece (joined pieces ++ behind) × (Stops (piece ++ (joined pieces ++ behind)) → ⊥) × ArePieces Stops pieces behind
+ArePieces Stops [] after = ⊤
+ArePieces Stops (piece ∷ pieces) after =
+    IsPiece piece (joined pieces ++ after) × (Stops (piece ++ (joined pieces ++ after)) → ⊥) × ArePieces Stops pieces after
 
 -- what stops the text begins at no byte of it and at no escaped letter, where this text stands after it
 abbrev pub Passes : (List ℕ → Type 0) → List ℕ → List ℕ → Type 0
-Passes Stops text behind = (pieces : List (List ℕ)) × (text ≡ joined pieces) × ArePieces Stops pieces behind
+Passes Stops text after = (pieces : List (List ℕ)) × (text ≡ joined pieces) × ArePieces Stops pieces after
 
 -- nothing, or a comment
 abbrev pub IsEnd : List ℕ → Type 0
@@ -53,19 +53,19 @@ pub record IsRest (text : List ℕ) : Type 0 where
 
 -- a context text in double quotes: it goes up to the closing quote, and after that stand blanks, and nothing or a comment
 pub record IsQuoted (value text : List ℕ) : Type 0 where
-  pub behind : List ℕ
-  pub value_is : value ≡ codes "\"" ++ (text ++ (codes "\"" ++ behind))
-  pub passes : Passes BeginsQuote text (codes "\"" ++ behind)
-  pub rest : IsRest behind
+  pub after : List ℕ
+  pub value_is : value ≡ codes "\"" ++ (text ++ (codes "\"" ++ after))
+  pub passes : Passes BeginsQuote text (codes "\"" ++ after)
+  pub rest : IsRest after
 
 -- a context text alone: it goes up to a comment or to the end of the line, and begins with no blank and no double quote
 pub record IsAlone (value text : List ℕ) : Type 0 where
-  pub behind : List ℕ
-  pub value_is : value ≡ text ++ behind
+  pub after : List ℕ
+  pub value_is : value ≡ text ++ after
   pub no_blank : BeginsBlank value → ⊥
   pub no_quote : BeginsQuote value → ⊥
-  pub passes : Passes BeginsComment text behind
-  pub is_end : IsEnd behind
+  pub passes : Passes BeginsComment text after
+  pub is_end : IsEnd after
 
 -- the line is a context line, and this is its context text: `context`, `=`, and the text in double quotes or alone, with blanks before each
 pub record IsContextLine (line text : List ℕ) : Type 0 where

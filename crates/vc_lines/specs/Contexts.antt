@@ -16,8 +16,8 @@ use Rattle.vc_text.specs.Blanks.{after_blanks}
 use Rattle.vc_lines.specs.Heads.{HeadLine, is_blank_line}
 
 -- the text after a front that it begins with
-abbrev pub behind : List ℕ → List ℕ → Option (List ℕ)
-behind front text = if bytes_eq (take (length front) text) front then Some (drop (length front) text) else None
+abbrev pub after_front : List ℕ → List ℕ → Option (List ℕ)
+after_front front text = if bytes_eq (take (length front) text) front then Some (drop (length front) text) else None
 
 -- how many bytes stand before the first place, outside of escaped letters, at which the test holds of the text from there on
 abbrev pub before : (List ℕ → Bool) → List ℕ → ℕ
@@ -26,10 +26,10 @@ before stops (x ∷ []) = if stops (x ∷ []) then 0 else 1
 before stops (x ∷ y ∷ s) = if stops (x ∷ y ∷ s) then 0 else (if x == 92 && is_escaped y then 2 + before stops s else 1 + before stops (y ∷ s))
 
 -- the text after its first letter or byte, where a letter may be escaped
-abbrev pub behind_one : List ℕ → List ℕ
-behind_one [] = []
-behind_one (x ∷ []) = []
-behind_one (x ∷ y ∷ s) = if x == 92 && is_escaped y then s else y ∷ s
+abbrev pub after_one : List ℕ → List ℕ
+after_one [] = []
+after_one (x ∷ []) = []
+after_one (x ∷ y ∷ s) = if x == 92 && is_escaped y then s else y ∷ s
 
 abbrev pub begins_quote : List ℕ → Bool
 begins_quote text = begins_with 34 text
@@ -49,10 +49,10 @@ value_text [] = Some []
 value_text (x ∷ s) = if x == 34 then quoted s else Some (take (before begins_comment (x ∷ s)) (x ∷ s))
 
 -- the context text of a line: `context`, `=`, and the text, with blanks before each
-abbrev pub context_text : List ℕ → Option (List ℕ)
-context_text line =
-    option_and_then (λ s. option_and_then (λ t. value_text (after_blanks t)) (behind (codes "=") (after_blanks s)))
-    (behind (codes "context") (after_blanks line))
+abbrev pub context_in_line : List ℕ → Option (List ℕ)
+context_in_line line =
+    option_and_then (λ s. option_and_then (λ t. value_text (after_blanks t)) (after_front (codes "=") (after_blanks s)))
+    (after_front (codes "context") (after_blanks line))
 
 -- the answer of the reader of the head: the context that the first line that is not blank spells; or that line's number where it spells none, and the last line's where all are blank
 abbrev pub IsContextOf : ℕ → Option HeadLine → Result AnyContext HeadFault → Type 0

@@ -1,21 +1,21 @@
 -- The lines of a file after its context line, by their tokens.
-use Rattle.std.specs.Prelude.{ℕ, ◌-◌, Bool, true, false, ◌&&◌, ◌||◌, List, [], ◌∷◌, length, take, drop, Option, Some, None, if◌then◌else◌}
+use Rattle.std.specs.Prelude.{ℕ, Bool, true, false, ◌&&◌, List, [], ◌∷◌, Option, Some, None, if◌then◌else◌}
 use Rattle.std.specs.Option.{is_some, option_and_then}
+use Rattle.std.specs.Result.{result_ok}
 use Rattle.std.specs.List.{list_all}
 use Rattle.vc_text.specs.Letters.{is_plain}
 use Rattle.vc_lex.specs.declared.token.TokenKind.{TokenKind}
-use Rattle.vc_lex.specs.declared.token.TokenKind.TheVariants.{One, Run, Quoted, Class, Weight, Bar, Arrow, Comma, Dollar, Name}
+use Rattle.vc_lex.specs.declared.token.Mode.TheVariants as mode
+use Rattle.vc_lex.specs.declared.token.TokenKind.TheVariants.{Run, Weight, Arrow, Comma, Dollar, Name}
+use Rattle.vc_text.specs.Escapes.{inside}
+use Rattle.vc_lex.specs.Parts.{is_label}
 use Rattle.vc_lines.specs.Pieces.{pieces}
-use Rattle.vc_lines.specs.Marks.{Mark, marks_of}
+use Rattle.vc_lex.specs.Marks.{Mark, marks_of}
 
 -- the kinds of tokens that lines have
 abbrev pub is_comma_kind : TokenKind → Bool
 is_comma_kind Comma = true
 is_comma_kind kind = false
-
-abbrev pub is_bar_kind : TokenKind → Bool
-is_bar_kind Bar = true
-is_bar_kind kind = false
 
 abbrev pub is_arrow_kind : TokenKind → Bool
 is_arrow_kind Arrow = true
@@ -28,20 +28,6 @@ is_dollar_kind kind = false
 abbrev pub is_weight_kind : TokenKind → Bool
 is_weight_kind Weight = true
 is_weight_kind kind = false
-
-abbrev pub is_class_kind : TokenKind → Bool
-is_class_kind Class = true
-is_class_kind kind = false
-
-abbrev pub is_part_kind : TokenKind → Bool
-is_part_kind Run = true
-is_part_kind Quoted = true
-is_part_kind One = true
-is_part_kind kind = false
-
--- what stands between the first and the last byte of a text
-abbrev pub inside : List ℕ → List ℕ
-inside text = take (length text - 2) (drop 1 text)
 
 -- a state is a run of plain letters, or a name in double quotes
 abbrev pub is_state_text : TokenKind → List ℕ → Bool
@@ -59,22 +45,6 @@ written_name kind text = text
 
 abbrev pub name_of : Mark → List ℕ
 name_of m = written_name m.kind m.text
-
--- one or more parts with bars between them: runs of letters, letters in quotes, `\e`
-abbrev pub are_parts : List Mark → Bool
-are_parts [] = false
-are_parts (m ∷ []) = is_part_kind m.kind
-are_parts (m ∷ b ∷ ms) = is_part_kind m.kind && is_bar_kind b.kind && are_parts ms
-
--- a class alone
-abbrev pub is_class : List Mark → Bool
-is_class [] = false
-is_class (m ∷ []) = is_class_kind m.kind
-is_class (m ∷ n ∷ ms) = false
-
--- a label is a class or parts
-abbrev pub is_label : List Mark → Bool
-is_label ms = is_class ms || are_parts ms
 
 -- a line: nothing; an initial or a final weight; transitions; the name of a state. Weights and entries are the tokens that stand there
 pub data Line : Type 0 where
@@ -152,4 +122,4 @@ module _ {V : Type 0} (spelled : List ℕ → Option V) where
 
   -- the line that a text is
   abbrev pub line_at : List ℕ → Option Line
-  line_at text = option_and_then line_of (marks_of text)
+  line_at text = option_and_then line_of (result_ok (marks_of mode.Line text))

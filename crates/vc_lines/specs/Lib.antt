@@ -1,8 +1,6 @@
 pub mod Pieces
 pub mod Lines
-pub mod Marks
 pub mod Grammar
-pub mod Labels
 pub mod Names
 pub mod Views
 pub mod Heads

@@ -7,8 +7,8 @@ use Rattle.std.specs.Cmp.Lexicographic.{slice_cmp}
 use Rattle.std.specs.declared.cmp.Ordering.{Ordering}
 use Rattle.std.specs.declared.cmp.Ordering.TheVariants.{Less, Greater}
 use Rattle.vc_model.specs.Lists.{In, NoRepeat}
+use Rattle.vc_text.specs.Escapes.{unescaped}
 use Rattle.vc_lines.specs.Grammar.{Line, blank, initial_at, final_at, moves, state, name_of}
-use Rattle.vc_lines.specs.Labels.{unescaped}
 
 abbrev pub is_digit : ℕ → Bool
 is_digit x = nat_le 48 x && nat_le x 57

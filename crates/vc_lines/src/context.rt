@@ -1,6 +1,6 @@
 ghost use Rattle.std.specs.Prelude.{◌≡◌, ◌<◌, ◌≤◌, length};
 ghost use Rattle.std.specs.Option.{option_copied};
-ghost use Rattle.vc_lines.specs.Contexts.{IsContextOf, before, behind_one, begins_comment, begins_quote, behind, context_text, quoted, value_text};
+ghost use Rattle.vc_lines.specs.Contexts.{IsContextOf, before, after_one, begins_comment, begins_quote, after_front, context_in_line, quoted, value_text};
 ghost use Rattle.vc_lines.specs.Heads.{head_line};
 ghost use Rattle.vc_lines.specs.Lines.{lines_of};
 
@@ -11,8 +11,8 @@ use vc_context::{AnyContext, read_context};
 use vc_text::{after_blanks, is_escaped};
 
 /// The text after a front that it begins with.
-fn behind<'t>(front: &[u8], text: &'t [u8]) -> Option<&'t [u8]>
-    ensures { option_copied result ≡ behind front.now text.now }
+fn after_front<'t>(front: &[u8], text: &'t [u8]) -> Option<&'t [u8]>
+    ensures { option_copied result ≡ after_front front.now text.now }
 {
     text.strip_prefix(front)
 }
@@ -37,8 +37,8 @@ fn begins_comment(text: &[u8]) -> bool
 }
 
 /// The text after its first letter or byte, where a letter may be escaped.
-fn behind_one(text: &[u8]) -> &[u8]
-    ensures value { result.now ≡ behind_one text.now }
+fn after_one(text: &[u8]) -> &[u8]
+    ensures value { result.now ≡ after_one text.now }
     ensures shorter { 0 < length text.now → length result.now < length text.now }
 {
     match text {
@@ -61,7 +61,7 @@ fn before_quote(text: &[u8]) -> usize
 {
     let mut rest = text;
     while !rest.is_empty() && !begins_quote(rest) {
-        rest = behind_one(rest);
+        rest = after_one(rest);
     }
     text.len() - rest.len()
 }
@@ -73,7 +73,7 @@ fn before_comment(text: &[u8]) -> usize
 {
     let mut rest = text;
     while !rest.is_empty() && !begins_comment(rest) {
-        rest = behind_one(rest);
+        rest = after_one(rest);
     }
     text.len() - rest.len()
 }
@@ -101,11 +101,11 @@ fn value_text(text: &[u8]) -> Option<&[u8]>
 }
 
 /// The context text of a context line.
-fn context_text(line: &[u8]) -> Option<&[u8]>
-    ensures { option_copied result ≡ context_text line.now }
+fn context_in_line(line: &[u8]) -> Option<&[u8]>
+    ensures { option_copied result ≡ context_in_line line.now }
 {
-    let rest = behind(b"context", after_blanks(line))?;
-    let rest = behind(b"=", after_blanks(rest))?;
+    let rest = after_front(b"context", after_blanks(line))?;
+    let rest = after_front(b"=", after_blanks(rest))?;
     value_text(after_blanks(rest))
 }
 
@@ -121,7 +121,7 @@ pub fn daut_context(bytes: &[u8]) -> Result<AnyContext, HeadFault>
         Head::Blank(line) => return Err(HeadFault::Syntax { line }),
         Head::Line(number, line, _) => (number, line),
     };
-    let Some(text) = context_text(line) else {
+    let Some(text) = context_in_line(line) else {
         return Err(HeadFault::Syntax { line: number });
     };
     match read_context(text) {

@@ -1,14 +1,16 @@
 ghost use Rattle.std.specs.Prelude.{◌≡◌, ◌≤◌, ◌∷◌, not, map, length, IfSome};
 ghost use Rattle.std.specs.List.{list_all, prefix_len};
 ghost use Rattle.std.specs.Option.{option_map};
-ghost use Rattle.vc_lines.specs.Grammar.{is_state, is_part_kind, is_bar_kind, is_comma_kind, is_arrow_kind, is_dollar_kind, is_weight_kind, inside, name_of, are_parts, is_class, is_comma, entries_of, entry_weight, entry_label, is_weight, is_end, is_entry, are_entries, arrow_line, line_of};
-ghost use Rattle.vc_lines.specs.Labels.{class_body};
-ghost use Rattle.vc_lines.specs.Views.{seen, line_seen, more_entries, tokens_left, AreFit, AreFitBehind, IsFitLine};
+ghost use Rattle.vc_lex.specs.Parts.{is_part_kind, is_bar_kind, are_parts, is_class, class_body};
+ghost use Rattle.vc_lex.specs.Views.{seen, AreFit};
+ghost use Rattle.vc_text.specs.Escapes.{inside};
+ghost use Rattle.vc_lines.specs.Grammar.{is_state, is_comma_kind, is_arrow_kind, is_dollar_kind, is_weight_kind, name_of, is_comma, entries_of, entry_weight, entry_label, is_weight, is_end, is_entry, are_entries, arrow_line, line_of};
+ghost use Rattle.vc_lines.specs.Views.{line_seen, more_entries, tokens_left, AreFitAfter, IsFitLine};
 ghost use Rattle.vc_text.specs.Letters.{is_plain};
 
-use vc_lex::{Token, TokenKind};
+use vc_lex::{Token, TokenKind, are_parts, is_class};
 use vc_ring::{NumberFault, Semiring};
-use vc_text::is_plain;
+use vc_text::{inside, is_plain};
 
 /// A line after the context line, by its tokens.
 #[derive(Clone, Copy)]
@@ -23,16 +25,6 @@ pub enum Line<'b, 't> {
     Moves(Token<'t>, Token<'t>, &'b [Token<'t>]),
     /// A state.
     State(Token<'t>),
-}
-
-/// What stands between the first and the last byte of a token.
-pub fn inside(text: &[u8]) -> &[u8]
-    ensures { result.now ≡ inside text.now }
-{
-    match text {
-        [_, inner @ .., _] => inner,
-        _ => &[],
-    }
 }
 
 fn is_plain_text(text: &[u8]) -> bool
@@ -61,18 +53,6 @@ pub fn name_of<'t>(token: Token<'t>) -> &'t [u8]
     }
 }
 
-fn is_part(kind: TokenKind) -> bool
-    ensures { result ≡ is_part_kind kind }
-{
-    matches!(kind, TokenKind::Run | TokenKind::Quoted | TokenKind::One)
-}
-
-fn is_bar(kind: TokenKind) -> bool
-    ensures { result ≡ is_bar_kind kind }
-{
-    matches!(kind, TokenKind::Bar)
-}
-
 fn is_comma(kind: TokenKind) -> bool
     ensures { result ≡ is_comma_kind kind }
 {
@@ -95,42 +75,6 @@ fn is_weight_kind(kind: TokenKind) -> bool
     ensures { result ≡ is_weight_kind kind }
 {
     matches!(kind, TokenKind::Weight)
-}
-
-/// Whether the label is a class.
-pub fn is_class(label: &[Token<'_>]) -> bool
-    ensures { result ≡ is_class (map seen label.now) }
-{
-    match label {
-        [class] => matches!(class.kind, TokenKind::Class),
-        _ => false,
-    }
-}
-
-/// What stands in the brackets of a class.
-pub fn class_body<'t>(label: &[Token<'t>]) -> &'t [u8]
-    ensures { result.now ≡ class_body (map seen label.now) }
-{
-    match label {
-        [class, ..] => inside(class.text),
-        [] => &[],
-    }
-}
-
-fn are_parts(label: &[Token<'_>]) -> bool
-    ensures { result ≡ are_parts (map seen label.now) }
-{
-    let mut rest = label;
-    while let [part, bar, after @ ..] = rest {
-        if !is_part(part.kind) || !is_bar(bar.kind) {
-            return false;
-        }
-        rest = after;
-    }
-    match rest {
-        [part] => is_part(part.kind),
-        _ => false,
-    }
 }
 
 /// Whether the text of a weight is one of the weight set.
@@ -191,7 +135,7 @@ fn entry_length(tokens: &[Token<'_>]) -> usize
 pub fn cut_entry<'b, 't>(tokens: &'b [Token<'t>]) -> (&'b [Token<'t>], Option<&'b [Token<'t>]>)
     ensures entries { entries_of (map seen tokens.now) ≡ map seen result.0.now ∷ more_entries result.1 }
     ensures shorter { tokens_left result.1 ≤ length tokens.now }
-    ensures fit { AreFit tokens.now → AreFit result.0.now × AreFitBehind result.1 }
+    ensures fit { AreFit tokens.now → AreFit result.0.now × AreFitAfter result.1 }
 {
     let end = entry_length(tokens);
     if end < tokens.len() {

@@ -11,9 +11,11 @@ use Rattle.vc_reader.specs.declared.fault.DautFault.TheVariants.{Syntax, NotALab
 use Rattle.vc_reader.specs.Building.{line_weights, with_all, IsAdded, IsRefused, AreTaken}
 use Rattle.std.specs.Prelude.{unwrap_or}
 use Rattle.std.specs.Option.{option_and_then}
+use Rattle.std.specs.Result.{result_ok}
+use Rattle.vc_lex.specs.Marks.{Mark, marks_of}
+use Rattle.vc_lex.specs.declared.token.Mode.TheVariants as mode
 use Rattle.vc_lines.specs.Grammar.{Line, blank, line_of}
 use Rattle.vc_lines.specs.Lines.{lines_of, more_lines}
-use Rattle.vc_lines.specs.Marks.{Mark, marks_of}
 use Rattle.vc_reader.specs.Spelling.{line_in}
 use Rattle.vc_reader.specs.Meaning.{Given}
 use Rattle.vc_reader.specs.Passes.{AreAdded, IsRefusedAt, fault_at}
@@ -50,8 +52,8 @@ module _ {V : Type 0} (R : WeightSet V) (spelled : List ℕ → Option V) (fit :
   line_refused n l ls d mid new (NoMemory x) h = tt
 
 -- the line that a text is
-pub line_is : {V : Type 0} (spelled : List ℕ → Option V) (text : List ℕ) (ms : List Mark) (l : Line) → marks_of text ≡ Some ms → Some l ≡ line_of spelled ms → line_in spelled text ≡ l
-line_is spelled text ms l e f = ap (λ o. unwrap_or (option_and_then (line_of spelled) o) blank) e ∙ ap (λ o. unwrap_or o blank) (sym f)
+pub line_is : {V : Type 0} (spelled : List ℕ → Option V) (text : List ℕ) (ms : List Mark) (l : Line) → marks_of mode.Line text ≡ Ok ms → Some l ≡ line_of spelled ms → line_in spelled text ≡ l
+line_is spelled text ms l e f = ap (λ o. unwrap_or (option_and_then (line_of spelled) (result_ok o)) blank) e ∙ ap (λ o. unwrap_or o blank) (sym f)
 
 -- lines after another line
 pub some_lines : (s : List ℕ) → 0 < length s → more_lines s ≡ lines_of s

@@ -7,11 +7,12 @@ use Rattle.vc_model.specs.WeightSet.{WeightSet}
 use Rattle.vc_ring.specs.declared.faults.MakeFault.{MakeFault}
 use Rattle.vc_ring.specs.declared.faults.MakeFault.TheVariants.{Overflow as Unfit, Limit as PastLimit, Memory}
 use Rattle.vc_ring.specs.declared.faults.Overflow.TheVariants.{Numeral, Add, Mul, Star}
-use Rattle.vc_lines.specs.Marks.{Mark}
+use Rattle.vc_lex.specs.Labels.{class_words, label_words}
+use Rattle.vc_lex.specs.Marks.{Mark}
+use Rattle.vc_lex.specs.Parts.{is_class, class_body, parts_word}
 use Rattle.vc_label.specs.declared.tape_set.TapeSet.{TapeSet}
 use Rattle.vc_model.specs.Words.{Word}
-use Rattle.vc_lines.specs.Grammar.{is_class, entry_weight, entry_label}
-use Rattle.vc_lines.specs.Labels.{class_body, class_words, label_words, parts_word}
+use Rattle.vc_lines.specs.Grammar.{entry_weight, entry_label}
 use Rattle.vc_reader.specs.Meaning.{Given, moves_with, weight_of, given_by_entry}
 use Rattle.vc_reader.specs.Building.{with_given, with_all, AreTaken, IsRefused, HasNumeral, HaveNumbers, IsAdded}
 

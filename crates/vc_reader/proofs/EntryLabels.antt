@@ -5,11 +5,12 @@ use Rattle.vc_label.specs.declared.tape_set.TapeSet.{TapeSet}
 use Rattle.vc_lex.specs.declared.token.Token.{Token}
 use Rattle.std.specs.Prelude.{if◌then◌else◌}
 use Rattle.std.specs.List.{list_all}
-use Rattle.vc_lines.specs.Grammar.{Line, initial_at, final_at, moves, state, is_label, is_state, is_end, is_entry, is_weight_or_none, is_dollar_kind, is_arrow_kind, are_entries, entries_of, entry_weight, entry_label, have_labels, has_labels, arrow_line, line_of}
-use Rattle.vc_lines.specs.Labels.{IsLabelOver}
-use Rattle.vc_lines.specs.Marks.{Mark, end_of, span_of}
+use Rattle.vc_lex.specs.Labels.{IsLabelOver}
+use Rattle.vc_lex.specs.Marks.{Mark, end_of, span_of}
+use Rattle.vc_lex.specs.Parts.{is_label}
+use Rattle.vc_lex.specs.Views.{seen, AreFit}
+use Rattle.vc_lines.specs.Grammar.{Line, initial_at, final_at, moves, state, is_state, is_end, is_entry, is_weight_or_none, is_dollar_kind, is_arrow_kind, are_entries, entries_of, entry_weight, entry_label, have_labels, has_labels, arrow_line, line_of}
 use Rattle.vc_reader.specs.Spelling.{AreEntriesOver, IsFirstEntry}
-use Rattle.vc_lines.specs.Views.{seen, AreFit}
 
 pub both_true : (a b : Bool) → a && b ≡ true → (a ≡ true) × (b ≡ true)
 both_true true true h = (refl, refl)

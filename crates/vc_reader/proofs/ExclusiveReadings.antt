@@ -15,11 +15,11 @@ use Rattle.vc_ring.specs.declared.faults.MakeFault.TheVariants.{Overflow as Unfi
 use Rattle.vc_ring.specs.declared.faults.Overflow.TheVariants.{Numeral, Add, Mul, Star}
 use Rattle.vc_reader.specs.declared.fault.DautFault.{DautFault}
 use Rattle.vc_reader.specs.declared.fault.DautFault.TheVariants.{Syntax, NotALabel, Overflow, Limit, Memory}
-use Rattle.vc_reader.specs.Answers.{IsReadBehind, IsBuilt, IsUnfit, IsPastLimit, AreInGrammar, states_alone, given_behind}
+use Rattle.vc_reader.specs.Answers.{IsReadAfter, IsBuilt, IsUnfit, IsPastLimit, AreInGrammar, states_alone, given_after}
 use Rattle.vc_reader.specs.Building.{line_weights, HaveNumbers, IsRefused, AreTaken, with_given, with_all}
+use Rattle.vc_lex.specs.Marks.{Mark}
 use Rattle.vc_lines.specs.Grammar.{Line, blank, initial_at, final_at, moves, state, entries_of}
 use Rattle.vc_lines.specs.Heads.{HeadLine}
-use Rattle.vc_lines.specs.Marks.{Mark}
 use Rattle.vc_reader.specs.Meaning.{Given, given_by, number_of}
 use Rattle.vc_lines.specs.Names.{AreNames, AreInOrder, line_names, with_names}
 use Rattle.vc_reader.specs.Passes.{IsNumeralAt, IsRefusedAt}
@@ -116,23 +116,23 @@ module _ {V : Type 0} (R : WeightSet V) (spelled : List ℕ → Option V) (fit :
   taken_not_refused_at given n (l ∷ ls) d line f t (inr (k, r)) = taken_not_refused_at given (n + 1) ls (with_all R d (given l)) line f (taken_parts d (given l) (flat_map given ls) t).1 r
 
 module _ {V : Type 0} (T : WeightTexts V) (sets : List TapeSet) (h : HeadLine)
-    (once : (names others : List (List ℕ)) → AreNames (lines_in T.spelled h.behind) names → AreNames (lines_in T.spelled h.behind) others → names ≡ others) where
+    (once : (names others : List (List ℕ)) → AreNames (lines_in T.spelled h.after) names → AreNames (lines_in T.spelled h.after) others → names ≡ others) where
   -- what is past its bounds
   abbrev Past : Type 0
   Past =
-      ((line at : ℕ) × IsNumeralAt T.set T.spelled T.numbers_fit (h.number + 1) (lines_in T.spelled h.behind) line at)
+      ((line at : ℕ) × IsNumeralAt T.set T.spelled T.numbers_fit (h.number + 1) (lines_in T.spelled h.after) line at)
       ⊎ (((line : ℕ) × (fault : MakeFault V) × IsUnfit T sets h line fault)
       ⊎ ((l : Bound) × IsPastLimit T sets h l))
 
   -- an answer by its kind
   data Kind (x : Result (Labelled V) (DautFault V)) : Type 0 where
     wanting : IsWantOfMemory x → Kind x
-    bad : (l : ℕ) → x ≡ Err (Syntax l) → bad_line T.spelled (h.number + 1) h.behind ≡ Some l → Kind x
-    outside : (line from to : ℕ) → x ≡ Err (NotALabel line from to) → bad_line T.spelled (h.number + 1) h.behind ≡ None → IsFirstLabel sets (h.number + 1) (lines_in T.spelled h.behind) line (from, to) → Kind x
+    bad : (l : ℕ) → x ≡ Err (Syntax l) → bad_line T.spelled (h.number + 1) h.after ≡ Some l → Kind x
+    outside : (line from to : ℕ) → x ≡ Err (NotALabel line from to) → bad_line T.spelled (h.number + 1) h.after ≡ None → IsFirstLabel sets (h.number + 1) (lines_in T.spelled h.after) line (from, to) → Kind x
     past : IsPastBounds x → AreInGrammar T sets h → Past → Kind x
     built : (a : Labelled V) → x ≡ Ok a → IsBuilt T sets h a → Kind x
 
-  kind_of : (x : Result (Labelled V) (DautFault V)) → IsReadBehind T sets h x → Kind x
+  kind_of : (x : Result (Labelled V) (DautFault V)) → IsReadAfter T sets h x → Kind x
   kind_of (Ok a) b = built a refl b
   kind_of (Err (Syntax l)) b = bad l refl b
   kind_of (Err (NotALabel line from to)) (n, b) = outside line from to refl n b
@@ -148,22 +148,22 @@ module _ {V : Type 0} (T : WeightTexts V) (sets : List TapeSet) (h : HeadLine)
 
   -- nothing in what was built is past its bounds
   within : (a : Labelled V) → IsBuilt T sets h a → Past → ⊥
-  within a b (inl (line, at, k)) = no_numeral T.set T.spelled T.numbers_fit (h.number + 1) (lines_in T.spelled h.behind) line at b.numbers k
+  within a b (inl (line, at, k)) = no_numeral T.set T.spelled T.numbers_fit (h.number + 1) (lines_in T.spelled h.after) line at b.numbers k
   within a b (inr (inl (line, fault, (names, n, r)))) =
-      taken_not_refused_at T.set T.spelled T.numbers_fit (given_by T.set T.spelled sets (number_of b.names)) (h.number + 1) (lines_in T.spelled h.behind) (states_alone T sets (length b.names)) line fault b.taken
-      (subst (λ (ns : List (List ℕ)). IsRefusedAt T.set T.spelled T.numbers_fit (given_by T.set T.spelled sets (number_of ns)) (h.number + 1) (lines_in T.spelled h.behind) (states_alone T sets (length ns)) line fault) (once names b.names n b.are_names) r)
+      taken_not_refused_at T.set T.spelled T.numbers_fit (given_by T.set T.spelled sets (number_of b.names)) (h.number + 1) (lines_in T.spelled h.after) (states_alone T sets (length b.names)) line fault b.taken
+      (subst (λ (ns : List (List ℕ)). IsRefusedAt T.set T.spelled T.numbers_fit (given_by T.set T.spelled sets (number_of ns)) (h.number + 1) (lines_in T.spelled h.after) (states_alone T sets (length ns)) line fault) (once names b.names n b.are_names) r)
   within a b (inr (inr (l, inl (e, k)))) =
-      let c = names_count (flat_map line_names (lines_in T.spelled h.behind)) b.names b.are_names in
+      let c = names_count (flat_map line_names (lines_in T.spelled h.after)) b.names b.are_names in
       let f = b.few in
       omega (arith, c, f, k)
   within a b (inr (inr (l, inr (names, n, r)))) =
-      taken_not_refused T.set T.spelled T.numbers_fit (states_alone T sets (length b.names)) (given_behind T sets h b.names) (PastLimit l) b.taken
-      (subst (λ (ns : List (List ℕ)). IsRefused T.set (states_alone T sets (length ns)) (given_behind T sets h ns) (PastLimit l)) (once names b.names n b.are_names) r)
+      taken_not_refused T.set T.spelled T.numbers_fit (states_alone T sets (length b.names)) (given_after T sets h b.names) (PastLimit l) b.taken
+      (subst (λ (ns : List (List ℕ)). IsRefused T.set (states_alone T sets (length ns)) (given_after T sets h ns) (PastLimit l)) (once names b.names n b.are_names) r)
 
   same_built : (a b : Labelled V) → IsBuilt T sets h a → IsBuilt T sets h b → a ≡ b
   same_built a b f g =
       f.built
-      ∙ ap (λ (ns : List (List ℕ)). finished T.set T.same (with_all T.set (states_alone T sets (length ns)) (given_behind T sets h ns))) (once f.names g.names f.are_names g.are_names)
+      ∙ ap (λ (ns : List (List ℕ)). finished T.set T.same (with_all T.set (states_alone T sets (length ns)) (given_after T sets h ns))) (once f.names g.names f.are_names g.are_names)
       ∙ sym g.built
 
   exclude_by : (x y : Result (Labelled V) (DautFault V)) → Kind x → Kind y → IsSameReading x y
@@ -173,27 +173,27 @@ module _ {V : Type 0} (T : WeightTexts V) (sets : List TapeSet) (h : HeadLine)
     where
       one : (l m : ℕ) → Some l ≡ Some m → l ≡ m
       one l m e = cc
-  exclude_by x y (bad l e b) (outside line from to f n c) = absurd (some_not_none (bad_line T.spelled (h.number + 1) h.behind) l b n)
-  exclude_by x y (bad l e b) (past p (n, o) c) = absurd (some_not_none (bad_line T.spelled (h.number + 1) h.behind) l b n)
-  exclude_by x y (bad l e b) (built a f c) = absurd (some_not_none (bad_line T.spelled (h.number + 1) h.behind) l b c.are_lines)
+  exclude_by x y (bad l e b) (outside line from to f n c) = absurd (some_not_none (bad_line T.spelled (h.number + 1) h.after) l b n)
+  exclude_by x y (bad l e b) (past p (n, o) c) = absurd (some_not_none (bad_line T.spelled (h.number + 1) h.after) l b n)
+  exclude_by x y (bad l e b) (built a f c) = absurd (some_not_none (bad_line T.spelled (h.number + 1) h.after) l b c.are_lines)
   exclude_by x y (outside line from to e n b) (wanting m) = inl (inr m)
-  exclude_by x y (outside line from to e n b) (bad l f c) = absurd (some_not_none (bad_line T.spelled (h.number + 1) h.behind) l c n)
+  exclude_by x y (outside line from to e n b) (bad l f c) = absurd (some_not_none (bad_line T.spelled (h.number + 1) h.after) l c n)
   exclude_by x y (outside line from to e n b) (outside other start end f m c) =
-      let k = first_once sets (h.number + 1) (lines_in T.spelled h.behind) line other (from, to) (start, end) b c in
+      let k = first_once sets (h.number + 1) (lines_in T.spelled h.after) line other (from, to) (start, end) b c in
       inr (inl (e ∙ ap₂ (λ (l : ℕ) (s : ℕ × ℕ). Err (NotALabel l s.0 s.1)) k.0 k.1 ∙ sym f))
-  exclude_by x y (outside line from to e n b) (past p (m, o) c) = absurd (over_no_first sets (h.number + 1) (lines_in T.spelled h.behind) line (from, to) o b)
-  exclude_by x y (outside line from to e n b) (built a f c) = absurd (over_no_first sets (h.number + 1) (lines_in T.spelled h.behind) line (from, to) c.over b)
+  exclude_by x y (outside line from to e n b) (past p (m, o) c) = absurd (over_no_first sets (h.number + 1) (lines_in T.spelled h.after) line (from, to) o b)
+  exclude_by x y (outside line from to e n b) (built a f c) = absurd (over_no_first sets (h.number + 1) (lines_in T.spelled h.after) line (from, to) c.over b)
   exclude_by x y (past p g b) (wanting m) = inl (inr m)
-  exclude_by x y (past p (n, o) b) (bad l f c) = absurd (some_not_none (bad_line T.spelled (h.number + 1) h.behind) l c n)
-  exclude_by x y (past p (n, o) b) (outside line from to f m c) = absurd (over_no_first sets (h.number + 1) (lines_in T.spelled h.behind) line (from, to) o c)
+  exclude_by x y (past p (n, o) b) (bad l f c) = absurd (some_not_none (bad_line T.spelled (h.number + 1) h.after) l c n)
+  exclude_by x y (past p (n, o) b) (outside line from to f m c) = absurd (over_no_first sets (h.number + 1) (lines_in T.spelled h.after) line (from, to) o c)
   exclude_by x y (past p g b) (past q i c) = inr (inr (p, q))
   exclude_by x y (past p g b) (built a f c) = absurd (within a c b)
   exclude_by x y (built a e b) (wanting m) = inl (inr m)
-  exclude_by x y (built a e b) (bad l f c) = absurd (some_not_none (bad_line T.spelled (h.number + 1) h.behind) l c b.are_lines)
-  exclude_by x y (built a e b) (outside line from to f n c) = absurd (over_no_first sets (h.number + 1) (lines_in T.spelled h.behind) line (from, to) b.over c)
+  exclude_by x y (built a e b) (bad l f c) = absurd (some_not_none (bad_line T.spelled (h.number + 1) h.after) l c b.are_lines)
+  exclude_by x y (built a e b) (outside line from to f n c) = absurd (over_no_first sets (h.number + 1) (lines_in T.spelled h.after) line (from, to) b.over c)
   exclude_by x y (built a e b) (past p g c) = absurd (within a b c)
   exclude_by x y (built a e b) (built c f d) = inr (inl (e ∙ ap Ok (same_built a c b d) ∙ sym f))
 
   -- two answers on one text
-  pub exclude : (x y : Result (Labelled V) (DautFault V)) → IsReadBehind T sets h x → IsReadBehind T sets h y → IsSameReading x y
+  pub exclude : (x y : Result (Labelled V) (DautFault V)) → IsReadAfter T sets h x → IsReadAfter T sets h y → IsSameReading x y
   exclude x y a b = exclude_by x y (kind_of x a) (kind_of y b)

@@ -21,3 +21,4 @@ pub mod TripleOrder
 mod OneAutomaton
 mod RefusedAdditions
 mod TripleLimits
+pub mod TakenAdditions

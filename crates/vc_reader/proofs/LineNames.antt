@@ -1,14 +1,15 @@
 -- The names that stand in lines are written.
-use Rattle.std.proofs.Common.{◌≡◌, ◌+◌, ◌-◌, ℕ, Bool, true, false, ◌&&◌, List, [], ◌∷◌, length, take, drop, Option, Some, None, refl, ap, ap₂, sym, ◌∙◌, subst, inl, inr, arith}
+use Rattle.std.proofs.Common.{◌≡◌, ◌+◌, ◌-◌, ℕ, Bool, true, false, ◌&&◌, List, [], ◌∷◌, length, take, drop, Option, Some, None, Result, Ok, Err, refl, ap, ap₂, sym, ◌∙◌, subst, inl, inr, arith}
 use Rattle.std.specs.Prelude.{if◌then◌else◌, unwrap_or}
 use Rattle.std.specs.List.{flat_map}
 use Rattle.std.specs.Option.{option_and_then}
+use Rattle.std.specs.Result.{result_ok}
 use Rattle.vc_lex.specs.Grammar.{IsTokenText}
 use Rattle.vc_lex.specs.declared.token.Mode.TheVariants.{Line as LineMode}
 use Rattle.vc_model.specs.Lists.{In}
 use Rattle.vc_model.specs.Members.{In-append_cases}
+use Rattle.vc_lex.specs.Marks.{Mark, IsNext, HasMarks, next_at, marks_of}
 use Rattle.vc_lines.specs.Grammar.{Line, blank, initial_at, final_at, moves, state, is_state, is_end, is_dollar_kind, is_arrow_kind, are_entries, arrow_line, line_of, line_at, name_of}
-use Rattle.vc_lines.specs.Marks.{Mark, IsNext, HasMarks, next_at, marks_of}
 use Rattle.vc_lines.specs.Names.{AreNames, line_names}
 use Rattle.vc_reader.specs.Spelling.{AreLines, line_in, lines_in}
 use Rattle.vc_reader.proofs.WrittenNames.{IsWritten, token_written}
@@ -16,13 +17,13 @@ use Rattle.vc_reader.proofs.EntryLabels.{both_true}
 use Rattle.vc_reader.proofs.OneNumbering.{one_list}
 
 -- the text of a token is one of its kind
-next_token : (line : List ℕ) (at : ℕ) (m : Mark) → IsNext line at m → IsTokenText m.kind LineMode m.text
+next_token : (line : List ℕ) (at : ℕ) (m : Mark) → IsNext LineMode line at m → IsTokenText m.kind LineMode m.text
 next_token line at m x =
     let n : (m.at + length m.text) - m.at ≡ length m.text = omega arith in
-    let e : m.text ≡ take (length m.text) (drop (next_at line at) line) = x.text ∙ ap₂ (λ k p. take k (drop p line)) n x.place in
+    let e : m.text ≡ take (length m.text) (drop (next_at line at) line) = x.slice ∙ ap₂ (λ k p. take k (drop p line)) n x.place in
     subst (IsTokenText m.kind LineMode) (sym e) x.begins.is_token
 
-marks_tokens : (line : List ℕ) (at : ℕ) (ms : List Mark) → HasMarks line at ms → (m : Mark) → In m ms → IsTokenText m.kind LineMode m.text
+marks_tokens : (line : List ℕ) (at : ℕ) (ms : List Mark) → HasMarks LineMode line at ms → (m : Mark) → In m ms → IsTokenText m.kind LineMode m.text
 marks_tokens line at [] h m i = absurd i
 marks_tokens line at (n ∷ ms) (x, h) m (inl e) = subst (λ k. IsTokenText k.kind LineMode k.text) (sym e) (next_token line at n x)
 marks_tokens line at (n ∷ ms) (x, h) m (inr i) = marks_tokens line (n.at + length n.text) ms h m i
@@ -57,13 +58,13 @@ module _ {V : Type 0} (spelled : List ℕ → Option V) where
   marks_written (m ∷ a ∷ []) h = tt
   marks_written (m ∷ a ∷ n ∷ rest) h = choose (is_arrow_kind a.kind) (arrow_line spelled m n rest) None (λ e. arrow_written m n rest (h m (inl refl)) (h n (inr (inr (inl refl))))) tt
 
-  module _ (sound : (line : List ℕ) (ms : List Mark) → marks_of line ≡ Some ms → HasMarks line 0 ms) where
+  module _ (sound : (line : List ℕ) (ms : List Mark) → marks_of LineMode line ≡ Ok ms → HasMarks LineMode line 0 ms) where
     text_written : (text : List ℕ) → HasWritten (line_at spelled text)
-    text_written text = go (marks_of text) refl
+    text_written text = go (marks_of LineMode text) refl
       where
-        go : (o : Option (List Mark)) → marks_of text ≡ o → HasWritten (option_and_then (line_of spelled) o)
-        go None e = tt
-        go (Some ms) e = marks_written ms (λ m i s. token_written m.kind m.text (marks_tokens text 0 ms (sound text ms e) m i) s)
+        go : (r : Result (List Mark) ℕ) → marks_of LineMode text ≡ r → HasWritten (option_and_then (line_of spelled) (result_ok r))
+        go (Err bad) e = tt
+        go (Ok ms) e = marks_written ms (λ m i s. token_written m.kind m.text (marks_tokens text 0 ms (sound text ms e) m i) s)
 
     in_line : (text a : List ℕ) → In a (line_names (line_in spelled text)) → IsWritten a
     in_line text a i = go (line_at spelled text) (text_written text) i

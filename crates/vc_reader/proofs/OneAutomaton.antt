@@ -18,7 +18,7 @@ use Rattle.vc_model.specs.Words.{Word}
 use Rattle.vc_model.specs.GatheredLaws.{gathered_alike}
 use Rattle.vc_ring.specs.Texts.{WeightTexts}
 use Rattle.vc_lines.specs.ContextLines.{IsContextLine}
-use Rattle.vc_lines.specs.Contexts.{context_text}
+use Rattle.vc_lines.specs.Contexts.{context_in_line}
 use Rattle.vc_lines.specs.Heads.{HeadLine, head_line}
 use Rattle.vc_lines.specs.Lines.{lines_of}
 use Rattle.vc_reader.specs.Meaning.{Given, moving, given_by, number_of, IsSumOf}
@@ -70,8 +70,8 @@ module _ {V : Type 0} (R : WeightSet V) (total : IsTotalOrder word_order) where
 
 module _ {V : Type 0} (T : WeightTexts V) (total : IsTotalOrder word_order) (L : SemiringLaws T.set) (once : (texts names others : List (List ℕ)) → AreNames (lines_in T.spelled texts) names → AreNames (lines_in T.spelled texts) others → names ≡ others) where
   -- the lines after a head spell at most one automaton
-  pub one_behind : (sets : List TapeSet) (texts : List (List ℕ)) (a b : Automaton V) → Spells T sets texts a → Spells T sets texts b → a ≡ b
-  one_behind sets texts a b s t =
+  pub one_after : (sets : List TapeSet) (texts : List (List ℕ)) (a b : Automaton V) → Spells T sets texts a → Spells T sets texts b → a ≡ b
+  one_after sets texts a b s t =
       let all = lines_in T.spelled texts in
       let l = lines_once T.spelled texts s.lines s.are_lines in
       let m = lines_once T.spelled texts t.lines t.are_lines in
@@ -84,17 +84,17 @@ module _ {V : Type 0} (T : WeightTexts V) (total : IsTotalOrder word_order) (L :
 
   -- a text spells at most one automaton, over one list of sets and with the name of one weight set
   pub one_whole : ((text : List ℕ) (sets others : List TapeSet) (weights other : Weights) → SpellsContext text sets weights → SpellsContext text others other → (sets ≡ others) × (weights ≡ other))
-      → ((line text : List ℕ) → IsContextLine line text → context_text line ≡ Some text)
+      → ((line text : List ℕ) → IsContextLine line text → context_in_line line ≡ Some text)
       → (text : List ℕ) (sets others : List TapeSet) (weights other : Weights) (a b : Automaton V) → SpellsAutomaton T text sets weights a → SpellsAutomaton T text others other b
       → (sets ≡ others) × (weights ≡ other) × (a ≡ b)
   one_whole one complete text sets others weights other a b s t =
       let h : t.head ≡ s.head = heads t.head s.head (head_line 1 (lines_of text)) t.is_head s.is_head in
-      let c : t.context ≡ s.context = texts t.context s.context (context_text s.head.line) (complete s.head.line t.context (subst (λ (k : HeadLine). IsContextLine k.line t.context) h t.is_context)) (complete s.head.line s.context s.is_context) in
+      let c : t.context ≡ s.context = texts t.context s.context (context_in_line s.head.line) (complete s.head.line t.context (subst (λ (k : HeadLine). IsContextLine k.line t.context) h t.is_context)) (complete s.head.line s.context s.is_context) in
       let k = one s.context sets others weights other s.spells (subst (λ x. SpellsContext x others other) c t.spells) in (
         k.0,
         k.1,
-        one_behind sets s.head.behind a b s.behind
-            (subst (λ (x : HeadLine). Spells T sets x.behind b) h (subst (λ x. Spells T x t.head.behind b) (sym k.0) t.behind)),
+        one_after sets s.head.after a b s.after
+            (subst (λ (x : HeadLine). Spells T sets x.after b) h (subst (λ x. Spells T x t.head.after b) (sym k.0) t.after)),
       )
     where
       heads : (x y : HeadLine) (o : Option HeadLine) → o ≡ Some x → o ≡ Some y → x ≡ y

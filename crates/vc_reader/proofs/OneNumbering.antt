@@ -11,7 +11,7 @@ use Rattle.std.proofs.lemmas.Cmp.{nat_list_cmp_total, ranked}
 use Rattle.vc_model.specs.Gathered.{IsAscending}
 use Rattle.vc_model.specs.Lists.{In, NoRepeat}
 use Rattle.vc_model.specs.GatheredLaws.{ascending_same}
-use Rattle.vc_lines.specs.Labels.{unescaped}
+use Rattle.vc_text.specs.Escapes.{unescaped}
 use Rattle.vc_lines.specs.Names.{is_number, value_of, name_order, order_by, AreOrdered, AreInOrder}
 use Rattle.vc_reader.proofs.WrittenNames.{IsWritten, same_bytes, same_number}
 

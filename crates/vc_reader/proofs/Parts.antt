@@ -4,10 +4,9 @@ use Rattle.vc_label.specs.declared.tape_set.TapeSet.{TapeSet}
 use Rattle.vc_label.specs.Sets.{IsOverSets}
 use Rattle.vc_model.specs.Words.{Word}
 use Rattle.vc_lex.specs.declared.token.Token.{Token}
-use Rattle.vc_lines.specs.Grammar.{are_parts, is_part_kind, is_bar_kind}
-use Rattle.vc_lines.specs.Labels.{tape_of, parts_word}
-use Rattle.vc_lines.specs.Marks.{Mark}
-use Rattle.vc_lines.specs.Views.{seen}
+use Rattle.vc_lex.specs.Marks.{Mark}
+use Rattle.vc_lex.specs.Parts.{are_parts, is_part_kind, is_bar_kind, tape_of, parts_word}
+use Rattle.vc_lex.specs.Views.{seen}
 
 -- four parts
 pub seven_parts : (ts : List Token) (d e f g : Token) → length ts ≡ 7

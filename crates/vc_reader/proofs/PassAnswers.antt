@@ -7,7 +7,7 @@ use Rattle.vc_ring.specs.Texts.{WeightTexts}
 use Rattle.vc_ring.specs.declared.faults.Overflow.TheVariants.{Numeral, Add, Mul, Star}
 use Rattle.vc_reader.specs.declared.fault.DautFault.{DautFault}
 use Rattle.vc_reader.specs.declared.fault.DautFault.TheVariants.{Syntax, NotALabel, Overflow, Limit, Memory}
-use Rattle.vc_reader.specs.Answers.{IsBuiltBy, IsReadBehind, AreInGrammar}
+use Rattle.vc_reader.specs.Answers.{IsBuiltBy, IsReadAfter, AreInGrammar}
 use Rattle.vc_lines.specs.Heads.{HeadLine}
 use Rattle.vc_lines.specs.Names.{AreInOrder, AreNames, with_names}
 use Rattle.vc_reader.specs.Passes.{IsChecked}
@@ -34,14 +34,14 @@ pub head_is : (h k : HeadLine) (o : Option HeadLine) → o ≡ Some h → o ≡ 
 head_is h k o e f = let g : Some h ≡ Some k = sym e ∙ f in cc
 
 module _ {V : Type 0} (T : WeightTexts V) (sets : List TapeSet) (h : HeadLine) where
-  pub check_fault : (old new : List (List ℕ)) (f : DautFault V) → IsChecked T.spelled sets (h.number + 1) h.behind old new (Err f) → IsReadBehind T sets h (Err f)
+  pub check_fault : (old new : List (List ℕ)) (f : DautFault V) → IsChecked T.spelled sets (h.number + 1) h.after old new (Err f) → IsReadAfter T sets h (Err f)
   check_fault old new (Syntax line) c = c
   check_fault old new (NotALabel line from to) c = c
   check_fault old new (Overflow line step) c = absurd c
   check_fault old new (Limit l) c = absurd c
   check_fault old new (Memory e) c = tt
 
-  pub build_fault : (names : List (List ℕ)) (f : DautFault V) → AreInGrammar T sets h → AreNames (lines_in T.spelled h.behind) names → IsBuiltBy T sets (h.number + 1) (lines_in T.spelled h.behind) names (Err f) → IsReadBehind T sets h (Err f)
+  pub build_fault : (names : List (List ℕ)) (f : DautFault V) → AreInGrammar T sets h → AreNames (lines_in T.spelled h.after) names → IsBuiltBy T sets (h.number + 1) (lines_in T.spelled h.after) names (Err f) → IsReadAfter T sets h (Err f)
   build_fault names (Syntax line) m n (new, b) = absurd b
   build_fault names (NotALabel line from to) m n (new, b) = absurd b
   build_fault names (Overflow line (Numeral at)) m n (new, b) = (m, b)
@@ -51,7 +51,7 @@ module _ {V : Type 0} (T : WeightTexts V) (sets : List TapeSet) (h : HeadLine) w
   build_fault names (Limit l) m n (new, b) = (m, inr (names, n, b))
   build_fault names (Memory e) m n (new, b) = tt
 
-  pub build_answer : (names : List (List ℕ)) (r : Result (Labelled V) (DautFault V)) → bad_line T.spelled (h.number + 1) h.behind ≡ None → AreOver sets (lines_in T.spelled h.behind) → length names ≤ 1000000
-      → AreNames (lines_in T.spelled h.behind) names → IsBuiltBy T sets (h.number + 1) (lines_in T.spelled h.behind) names r → IsReadBehind T sets h r
+  pub build_answer : (names : List (List ℕ)) (r : Result (Labelled V) (DautFault V)) → bad_line T.spelled (h.number + 1) h.after ≡ None → AreOver sets (lines_in T.spelled h.after) → length names ≤ 1000000
+      → AreNames (lines_in T.spelled h.after) names → IsBuiltBy T sets (h.number + 1) (lines_in T.spelled h.after) names r → IsReadAfter T sets h r
   build_answer names (Ok a) bad over few n (b, t, k) = record { names = names; are_lines = bad; over = over; are_names = n; few = few; numbers = k; taken = t; built = b }
   build_answer names (Err f) bad over few n b = build_fault names f (bad, over) n b

@@ -12,7 +12,7 @@ use Rattle.vc_aut.specs.Refusals.{weight_refusal}
 use Rattle.vc_aut.specs.Sums.{insert_all, standing}
 use Rattle.vc_label.specs.declared.tape_set.TapeSet.{TapeSet}
 use Rattle.vc_label.specs.Order.{word_order}
-use Rattle.vc_model.specs.Automata.{Transition, triple}
+use Rattle.vc_model.specs.Automata.{Transition, initial_weight, final_weight, triple}
 use Rattle.vc_model.specs.Gathered.{weight_at}
 use Rattle.vc_model.specs.Lists.{In, up_from}
 use Rattle.vc_model.specs.Sums.{sum_over}
@@ -28,9 +28,9 @@ use Rattle.vc_ring.specs.Texts.{WeightTexts}
 use Rattle.vc_reader.specs.Additions.{given_weight, IsGivenAt, sum_standing, IsUnfitAddition}
 use Rattle.vc_reader.specs.Answers.{IsUnfit}
 use Rattle.vc_reader.specs.Building.{IsRefused, given_refusal, sum_refusal, with_given, with_all}
+use Rattle.vc_lex.specs.Labels.{label_words}
 use Rattle.vc_lines.specs.Grammar.{Line, blank, initial_at, final_at, moves, state, entries_of, entry_weight, entry_label, name_of}
 use Rattle.vc_lines.specs.Heads.{HeadLine}
-use Rattle.vc_lines.specs.Labels.{label_words}
 use Rattle.vc_reader.specs.Meaning.{Given, begins, ends, moves_by, moves_with, beginning, ending, moving, weight_of, given_by, given_by_entry, number_of}
 use Rattle.vc_lines.specs.Names.{line_names}
 use Rattle.vc_reader.specs.Passes.{IsRefusedAt, with_states}
@@ -56,7 +56,7 @@ at_place f s (suc n) (suc p) d h = let e : suc s + p ≡ s + suc p = omega arith
 
 module _ {V : Type 0} where
   -- a weight is given to one of n states
-  abbrev IsWithin : ℕ → Given V → Type 0
+  abbrev pub IsWithin : ℕ → Given V → Type 0
   IsWithin n (begins p w) = p < n
   IsWithin n (ends p w) = p < n
   IsWithin n (moves_by t) = Unit {0}
@@ -143,7 +143,7 @@ module _ {V : Type 0} (R : WeightSet V) (spelled : List ℕ → Option V) (fit :
       one_more n k = omega arith
 
   -- what is given at a place is given to one of the states
-  given_within : (sets : List TapeSet) (names : List (List ℕ)) (n : ℕ) (ls : List Line) (line : ℕ) (front : List (Given V)) (g : Given V) → ((a : List ℕ) → In a (flat_map line_names ls) → In a names)
+  pub given_within : (sets : List TapeSet) (names : List (List ℕ)) (n : ℕ) (ls : List Line) (line : ℕ) (front : List (Given V)) (g : Given V) → ((a : List ℕ) → In a (flat_map line_names ls) → In a names)
       → IsGivenAt (given_by R spelled sets (number_of names)) n ls line front g → IsWithin (length names) g
   given_within sets names n ls line front g h p =
       line_within sets names p.giver
@@ -179,29 +179,35 @@ module _ {V : Type 0} (R : WeightSet V) (spelled : List ℕ → Option V) (fit :
       (ordered : (added : List (Transition V)) → AreInOrder (insert_all R [] added))
       (stands : (ts : List (Transition V)) (t : Transition V) (w : V) → AreInOrder ts → standing ts t ≡ Some w → In (record t { weight = w }) ts) where
     -- the draft after what is given in front
-    front_adds : (n most : ℕ) (sets : List TapeSet) (front : List (Given V)) → IsAddedUp R L n front (with_all R (with_states R n (empty_draft most sets)) front)
+    pub front_adds : (n most : ℕ) (sets : List TapeSet) (front : List (Given V)) → IsAddedUp R L n front (with_all R (with_states R n (empty_draft most sets)) front)
     front_adds n most sets front = all_added R L n [] front (with_states R n (empty_draft most sets)) (begun R L most n sets)
 
     -- the weight that stands is the sum of what was given
-    standing_sum : (added : List (Transition V)) (t : Transition V) (u : V) → standing (insert_all R [] added) t ≡ Some u → u ≡ weight_at R added (triple t)
+    pub standing_sum : (added : List (Transition V)) (t : Transition V) (u : V) → standing (insert_all R [] added) t ≡ Some u → u ≡ weight_at R added (triple t)
     standing_sum added t u e =
         let ts = insert_all R [] added in
         sym (member_weight L ts (once_in_order equal ts (ordered added)) (record t { weight = u }) (stands ts t u (ordered added) e)) ∙ weights added (triple t)
 
+    zero_more : (p : ℕ) → 0 + p ≡ p
+    zero_more p = omega arith
+
+    -- the weight of a state after what is given in front
+    pub initial_sum : (n most : ℕ) (sets : List TapeSet) (front : List (Given V)) (p : ℕ) → p < n
+        → initial_weight R (with_all R (with_states R n (empty_draft most sets)) front).automaton p ≡ sum_over R (beginning R p) front
+    initial_sum n most sets front p i =
+        ap (λ xs. get_or xs p R.zero) (front_adds n most sets front).initial ∙ at_place (λ q. sum_over R (beginning R q) front) 0 n p R.zero i
+        ∙ ap (λ q. sum_over R (beginning R q) front) (zero_more p)
+
+    pub final_sum : (n most : ℕ) (sets : List TapeSet) (front : List (Given V)) (p : ℕ) → p < n
+        → final_weight R (with_all R (with_states R n (empty_draft most sets)) front).automaton p ≡ sum_over R (ending R p) front
+    final_sum n most sets front p i =
+        ap (λ xs. get_or xs p R.zero) (front_adds n most sets front).final ∙ at_place (λ q. sum_over R (ending R q) front) 0 n p R.zero i
+        ∙ ap (λ q. sum_over R (ending R q) front) (zero_more p)
+
     addition : (n most : ℕ) (sets : List TapeSet) (front : List (Given V)) (g : Given V) (v w : V) → IsWithin n g
         → given_refusal R (with_all R (with_states R n (empty_draft most sets)) front) g ≡ Some (Unfit (Add v w)) → IsRefusedSum (sum_standing R front g) (given_weight g) v w
-    addition n most sets front (begins p x) v w i h =
-        let a = front_adds n most sets front in
-        subst (λ s. IsRefusedSum s x v w) (ap (λ xs. get_or xs p R.zero) a.initial ∙ at_place (λ q. sum_over R (beginning R q) front) 0 n p R.zero i ∙ ap (λ q. sum_over R (beginning R q) front) (zero_more p)) (refused_sum _ x v w h)
-      where
-        zero_more : (p : ℕ) → 0 + p ≡ p
-        zero_more p = omega arith
-    addition n most sets front (ends p x) v w i h =
-        let a = front_adds n most sets front in
-        subst (λ s. IsRefusedSum s x v w) (ap (λ xs. get_or xs p R.zero) a.final ∙ at_place (λ q. sum_over R (ending R q) front) 0 n p R.zero i ∙ ap (λ q. sum_over R (ending R q) front) (zero_more p)) (refused_sum _ x v w h)
-      where
-        zero_more : (p : ℕ) → 0 + p ≡ p
-        zero_more p = omega arith
+    addition n most sets front (begins p x) v w i h = subst (λ s. IsRefusedSum s x v w) (initial_sum n most sets front p i) (refused_sum _ x v w h)
+    addition n most sets front (ends p x) v w i h = subst (λ s. IsRefusedSum s x v w) (final_sum n most sets front p i) (refused_sum _ x v w h)
     addition n most sets front (moves_by t) v w i h =
         let a = front_adds n most sets front in
         let ts = (with_all R (with_states R n (empty_draft most sets)) front).automaton.transitions in
@@ -216,7 +222,7 @@ pub unfit_addition : {V : Type 0} (T : WeightTexts V) → SemiringLaws T.set →
     → (sets : List TapeSet) (h : HeadLine) (line : ℕ) (v w : V) → IsUnfit T sets h line (Unfit (Add v w)) → IsUnfitAddition T sets h line v w
 unfit_addition T L equal weights ordered stands sets h line v w (names, o, r) =
     let given = given_by T.set T.spelled sets (number_of names) in
-    let ls = lines_in T.spelled h.behind in
+    let ls = lines_in T.spelled h.after in
     let k = refusal_at T.set T.spelled T.numbers_fit given (h.number + 1) ls (with_states T.set (length names) (empty_draft 1000000 sets)) line (Unfit (Add v w)) r in
     let inside = given_within T.set T.spelled T.numbers_fit sets names (h.number + 1) ls line k.front k.addend (λ a i. (o.named a).1 i) k.place in
     let s = addition T.set T.spelled T.numbers_fit L equal weights ordered stands (length names) 1000000 sets k.front k.addend v w inside k.cause in (

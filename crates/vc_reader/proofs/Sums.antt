@@ -193,13 +193,13 @@ module _ {V : Type 0} (R : WeightSet V) (L : SemiringLaws R) where
 pub built_spelled : {V : Type 0} (T : WeightTexts V) → SemiringLaws T.set → (sets : List TapeSet) (h : HeadLine) (a : Labelled V)
     → ((added : List (Transition V)) → IsGathered T.set added (without_zeros T.set T.same (insert_all T.set [] added)))
     → ((added : List (Transition V)) → AreInOrder (insert_all T.set [] added))
-    → IsBuilt T sets h a → Spells T sets h.behind a.automaton
+    → IsBuilt T sets h a → Spells T sets h.after a.automaton
 built_spelled {V} T L sets h a gathered ordered b =
-    let given = flat_map (given_by T.set T.spelled sets (number_of b.names)) (lines_in T.spelled h.behind) in
+    let given = flat_map (given_by T.set T.spelled sets (number_of b.names)) (lines_in T.spelled h.after) in
     record {
-      lines = lines_in T.spelled h.behind;
+      lines = lines_in T.spelled h.after;
       names = b.names;
-      are_lines = lines_are T.set L T.spelled (h.number + 1) h.behind b.are_lines;
+      are_lines = lines_are T.set L T.spelled (h.number + 1) h.after b.are_lines;
       over = b.over;
       are_names = b.are_names;
       sum = subst (λ (x : Labelled V). IsSumOf T.set (length b.names) given x.automaton) (sym b.built) (sum_finished T.set L T.same (length b.names) 1000000 sets given gathered);

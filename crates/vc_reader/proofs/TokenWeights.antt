@@ -8,8 +8,8 @@ use Rattle.vc_ring.specs.Texts.{read_as}
 use Rattle.vc_ring.specs.declared.faults.NumberFault.TheVariants.{Overflow}
 use Rattle.vc_lex.specs.declared.token.Token.{Token}
 use Rattle.vc_reader.specs.Building.{HasNumeral}
-use Rattle.vc_lines.specs.Grammar.{inside}
-use Rattle.vc_lines.specs.Views.{seen}
+use Rattle.vc_lex.specs.Views.{seen}
+use Rattle.vc_text.specs.Escapes.{inside}
 use Rattle.vc_reader.proofs.EntryLabels.{both_true}
 
 read_past : {V : Type 0} (o : Option V) (b : Bool) → Err Overflow ≡ read_as o b → is_some o && not b ≡ true

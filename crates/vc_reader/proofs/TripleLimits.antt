@@ -22,7 +22,7 @@ use Rattle.vc_ring.specs.declared.faults.MakeFault.TheVariants.{Overflow as Unfi
 use Rattle.vc_ring.specs.declared.faults.Measure.TheVariants.{States, Transitions}
 use Rattle.vc_ring.specs.declared.faults.Overflow.TheVariants.{Add}
 use Rattle.vc_reader.specs.Additions.{HasMoreTriples, HasManyTriples}
-use Rattle.vc_reader.specs.Answers.{IsPastLimit, given_behind}
+use Rattle.vc_reader.specs.Answers.{IsPastLimit, given_after}
 use Rattle.vc_reader.specs.Building.{given_refusal, sum_refusal, with_all}
 use Rattle.vc_lines.specs.Heads.{HeadLine}
 use Rattle.vc_reader.specs.Meaning.{Given, begins, ends, moves_by, moving}
@@ -62,7 +62,7 @@ module _ {V : Type 0} (R : WeightSet V) where
       (stands : (ts : List (Transition V)) (t : Transition V) (w : V) → AreInOrder ts → In (record t { weight = w }) ts → standing ts t ≡ Some w)
       (triples : (ts : List (Transition V)) (t : Transition V) (d : ℕ × Word × ℕ) → In d (map triple (insert_transition R ts t)) ↔ ((d ≡ triple t) ⊎ In d (map triple ts))) where
     -- a triple at which nothing stands
-    none_stands : (ts : List (Transition V)) (t : Transition V) → AreInOrder ts → standing ts t ≡ None → In (triple t) (map triple ts) → ⊥
+    pub none_stands : (ts : List (Transition V)) (t : Transition V) → AreInOrder ts → standing ts t ≡ None → In (triple t) (map triple ts) → ⊥
     none_stands ts t o e i =
         let r = In-map_from triple (triple t) ts i in
         let f = stands ts t r.0.weight o (subst (λ z. In z ts) (same r.0 t r.2) r.1) in
@@ -131,7 +131,7 @@ past_triples T L equal ordered stands triples sets h most (inl (e, k)) = absurd 
     measures e = cc
 past_triples T L equal ordered stands triples sets h most (inr (names, o, r)) =
     let l : Bound = record { what = Transitions; most = most } in
-    let gs = given_behind T sets h names in
+    let gs = given_after T sets h names in
     let k = refusal T.set T.spelled T.numbers_fit (with_states T.set (length names) (empty_draft 1000000 sets)) gs (PastLimit l) r in
     let m = many_triples T.set L equal ordered stands triples (length names) 1000000 sets k.front k.addend gs l (λ x i. subst (In x) (sym k.all) (In-append_left x k.front (k.addend ∷ k.rest) i)) (subst (In k.addend) (sym k.all) (In-middle k.addend k.front k.rest)) k.cause in
     (ap (λ (b : Bound). b.most) m.0, (names, o, m.1))

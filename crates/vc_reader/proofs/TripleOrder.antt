@@ -27,12 +27,12 @@ module _ {V : Type 0} where
         let to : t.to ≡ u.to = ap (λ d. d.2) h in
         rw (from, label, to, number_itself u.from, number_itself u.to, (equal u.label u.label).1 refl) refl
 
-    not_behind : (t : Transition V) (ts : List (Transition V)) → AllByRecursion (λ u. triple_order t u ≡ Less) ts → In (triple t) (map triple ts) → ⊥
-    not_behind t [] h i = i
-    not_behind t (u ∷ us) h (inl e) = let s : triple_order t u ≡ Equal = same_rank t u e in let l : triple_order t u ≡ Less = h.0 in cc
-    not_behind t (u ∷ us) h (inr i) = not_behind t us h.1 i
+    not_after : (t : Transition V) (ts : List (Transition V)) → AllByRecursion (λ u. triple_order t u ≡ Less) ts → In (triple t) (map triple ts) → ⊥
+    not_after t [] h i = i
+    not_after t (u ∷ us) h (inl e) = let s : triple_order t u ≡ Equal = same_rank t u e in let l : triple_order t u ≡ Less = h.0 in cc
+    not_after t (u ∷ us) h (inr i) = not_after t us h.1 i
 
     -- in strict order no triple stands twice
     pub once_in_order : (ts : List (Transition V)) → AreInOrder ts → NoRepeat (map triple ts)
     once_in_order [] h = tt
-    once_in_order (t ∷ ts) h = (not_behind t ts (sorted_head triple_order t ts h), once_in_order ts (sorted_tail triple_order t ts h))
+    once_in_order (t ∷ ts) h = (not_after t ts (sorted_head triple_order t ts h), once_in_order ts (sorted_tail triple_order t ts h))

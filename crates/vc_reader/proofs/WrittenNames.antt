@@ -12,8 +12,8 @@ use Rattle.vc_text.specs.Letters.{is_plain}
 use Rattle.vc_lex.specs.declared.token.Mode.TheVariants.{Line}
 use Rattle.vc_lex.specs.declared.token.TokenKind.{TokenKind}
 use Rattle.vc_lex.specs.declared.token.TokenKind.TheVariants.{Zero, One, Letter, Run, Quoted, Class, Weight, Star, And, Shuffle, Plus, Left, Right, Bar, Arrow, Comma, Dollar, Equals, Name}
-use Rattle.vc_lines.specs.Grammar.{inside, is_state_text, written_name}
-use Rattle.vc_lines.specs.Labels.{unescaped}
+use Rattle.vc_text.specs.Escapes.{inside, unescaped}
+use Rattle.vc_lines.specs.Grammar.{is_state_text, written_name}
 use Rattle.vc_lines.specs.Names.{is_digit, is_number, value_of, has_no_zero_in_front}
 use Rattle.vc_reader.proofs.EntryLabels.{both_true}
 

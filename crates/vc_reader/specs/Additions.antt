@@ -62,12 +62,12 @@ module _ {V : Type 0} (T : WeightTexts V) (sets : List TapeSet) (h : HeadLine) w
   -- the line of this number after the head makes an addition that does not fit
   abbrev pub IsUnfitAddition : ℕ → V → V → Type 0
   IsUnfitAddition line v w =
-      (names : List (List ℕ)) × AreNames (lines_in T.spelled h.behind) names
-      × IsAddition T.set (given_by T.set T.spelled sets (number_of names)) (h.number + 1) (lines_in T.spelled h.behind) line v w
+      (names : List (List ℕ)) × AreNames (lines_in T.spelled h.after) names
+      × IsAddition T.set (given_by T.set T.spelled sets (number_of names)) (h.number + 1) (lines_in T.spelled h.after) line v w
       × (T.set.fits_plus v w ≡ false)
 
   -- the lines after the head have transitions of more than 4,000,000 sources, labels and targets
   abbrev pub HasManyTriples : Type 0
   HasManyTriples =
-      (names : List (List ℕ)) × AreNames (lines_in T.spelled h.behind) names
-      × HasMoreTriples T.set 4000000 (flat_map (given_by T.set T.spelled sets (number_of names)) (lines_in T.spelled h.behind))
+      (names : List (List ℕ)) × AreNames (lines_in T.spelled h.after) names
+      × HasMoreTriples T.set 4000000 (flat_map (given_by T.set T.spelled sets (number_of names)) (lines_in T.spelled h.after))

@@ -22,8 +22,8 @@ use Rattle.vc_reader.specs.Spelling.{bad_line, lines_in, AreOver, IsFirstLabel}
 
 module _ {V : Type 0} (T : WeightTexts V) (sets : List TapeSet) where
   -- what all lines after the head give, where these are the names of the states
-  abbrev pub given_behind : HeadLine → List (List ℕ) → List (Given V)
-  given_behind h names = flat_map (given_by T.set T.spelled sets (number_of names)) (lines_in T.spelled h.behind)
+  abbrev pub given_after : HeadLine → List (List ℕ) → List (Given V)
+  given_after h names = flat_map (given_by T.set T.spelled sets (number_of names)) (lines_in T.spelled h.after)
 
   -- so many states, to which nothing was added
   abbrev pub states_alone : ℕ → Draft V
@@ -40,36 +40,36 @@ module _ {V : Type 0} (T : WeightTexts V) (sets : List TapeSet) where
   -- every text is a line, the labels are in the sets, no limit is passed, each number is in its range, and each sum fits; the automaton is that of what the lines give
   pub record IsBuilt (h : HeadLine) (automaton : Labelled V) : Type 0 where
     pub names : List (List ℕ)
-    pub are_lines : bad_line T.spelled (h.number + 1) h.behind ≡ None
-    pub over : AreOver sets (lines_in T.spelled h.behind)
-    pub are_names : AreNames (lines_in T.spelled h.behind) names
+    pub are_lines : bad_line T.spelled (h.number + 1) h.after ≡ None
+    pub over : AreOver sets (lines_in T.spelled h.after)
+    pub are_names : AreNames (lines_in T.spelled h.after) names
     pub few : length names ≤ 1000000
-    pub numbers : HaveNumbers T.set T.spelled T.numbers_fit (flat_map line_weights (lines_in T.spelled h.behind))
-    pub taken : AreTaken T.set (states_alone (length names)) (given_behind h names)
-    pub built : automaton ≡ finished T.set T.same (with_all T.set (states_alone (length names)) (given_behind h names))
+    pub numbers : HaveNumbers T.set T.spelled T.numbers_fit (flat_map line_weights (lines_in T.spelled h.after))
+    pub taken : AreTaken T.set (states_alone (length names)) (given_after h names)
+    pub built : automaton ≡ finished T.set T.same (with_all T.set (states_alone (length names)) (given_after h names))
 
   -- what a line gives is refused, or a number in it is past its range
   abbrev pub IsUnfit : HeadLine → ℕ → MakeFault V → Type 0
-  IsUnfit h line fault = (names : List (List ℕ)) × AreNames (lines_in T.spelled h.behind) names × IsRefusedAt T.set T.spelled T.numbers_fit (given_by T.set T.spelled sets (number_of names)) (h.number + 1) (lines_in T.spelled h.behind) (states_alone (length names)) line fault
+  IsUnfit h line fault = (names : List (List ℕ)) × AreNames (lines_in T.spelled h.after) names × IsRefusedAt T.set T.spelled T.numbers_fit (given_by T.set T.spelled sets (number_of names)) (h.number + 1) (lines_in T.spelled h.after) (states_alone (length names)) line fault
 
   -- the lines name more states than there may be, or more triples
   abbrev pub IsPastLimit : HeadLine → Bound → Type 0
   IsPastLimit h l =
-      ((l ≡ record { what = States; most = 1000000 }) × (1000000 < length (with_names [] (flat_map line_names (lines_in T.spelled h.behind)))))
-      ⊎ ((names : List (List ℕ)) × AreNames (lines_in T.spelled h.behind) names × IsRefused T.set (states_alone (length names)) (given_behind h names) (PastLimit l))
+      ((l ≡ record { what = States; most = 1000000 }) × (1000000 < length (with_names [] (flat_map line_names (lines_in T.spelled h.after)))))
+      ⊎ ((names : List (List ℕ)) × AreNames (lines_in T.spelled h.after) names × IsRefused T.set (states_alone (length names)) (given_after h names) (PastLimit l))
 
   -- each text is a line, and all labels are in the sets
   abbrev pub AreInGrammar : HeadLine → Type 0
-  AreInGrammar h = (bad_line T.spelled (h.number + 1) h.behind ≡ None) × AreOver sets (lines_in T.spelled h.behind)
+  AreInGrammar h = (bad_line T.spelled (h.number + 1) h.after ≡ None) × AreOver sets (lines_in T.spelled h.after)
 
   -- the answer of the reader, where this is the first line that is not blank
-  abbrev pub IsReadBehind : HeadLine → Result (Labelled V) (DautFault V) → Type 0
-  IsReadBehind h (Ok automaton) = IsBuilt h automaton
-  IsReadBehind h (Err (Syntax line)) = bad_line T.spelled (h.number + 1) h.behind ≡ Some line
-  IsReadBehind h (Err (NotALabel line from to)) = (bad_line T.spelled (h.number + 1) h.behind ≡ None) × IsFirstLabel sets (h.number + 1) (lines_in T.spelled h.behind) line (from, to)
-  IsReadBehind h (Err (Overflow line (Numeral at))) = AreInGrammar h × IsNumeralAt T.set T.spelled T.numbers_fit (h.number + 1) (lines_in T.spelled h.behind) line at
-  IsReadBehind h (Err (Overflow line (Add v w))) = AreInGrammar h × IsUnfit h line (Unfit (Add v w))
-  IsReadBehind h (Err (Overflow line (Mul v w))) = ⊥
-  IsReadBehind h (Err (Overflow line (Star v))) = ⊥
-  IsReadBehind h (Err (Limit l)) = AreInGrammar h × IsPastLimit h l
-  IsReadBehind h (Err (Memory e)) = ⊤
+  abbrev pub IsReadAfter : HeadLine → Result (Labelled V) (DautFault V) → Type 0
+  IsReadAfter h (Ok automaton) = IsBuilt h automaton
+  IsReadAfter h (Err (Syntax line)) = bad_line T.spelled (h.number + 1) h.after ≡ Some line
+  IsReadAfter h (Err (NotALabel line from to)) = (bad_line T.spelled (h.number + 1) h.after ≡ None) × IsFirstLabel sets (h.number + 1) (lines_in T.spelled h.after) line (from, to)
+  IsReadAfter h (Err (Overflow line (Numeral at))) = AreInGrammar h × IsNumeralAt T.set T.spelled T.numbers_fit (h.number + 1) (lines_in T.spelled h.after) line at
+  IsReadAfter h (Err (Overflow line (Add v w))) = AreInGrammar h × IsUnfit h line (Unfit (Add v w))
+  IsReadAfter h (Err (Overflow line (Mul v w))) = ⊥
+  IsReadAfter h (Err (Overflow line (Star v))) = ⊥
+  IsReadAfter h (Err (Limit l)) = AreInGrammar h × IsPastLimit h l
+  IsReadAfter h (Err (Memory e)) = ⊤

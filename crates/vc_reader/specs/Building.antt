@@ -10,8 +10,9 @@ use Rattle.vc_model.specs.WeightSet.{WeightSet}
 use Rattle.vc_ring.specs.declared.faults.MakeFault.{MakeFault}
 use Rattle.vc_ring.specs.declared.faults.MakeFault.TheVariants.{Overflow as Unfit, Limit as PastLimit, Memory}
 use Rattle.vc_ring.specs.declared.faults.Overflow.TheVariants.{Numeral, Add, Mul, Star}
-use Rattle.vc_lines.specs.Grammar.{Line, blank, initial_at, final_at, moves, state, inside, entries_of, entry_weight}
-use Rattle.vc_lines.specs.Marks.{Mark}
+use Rattle.vc_lex.specs.Marks.{Mark}
+use Rattle.vc_text.specs.Escapes.{inside}
+use Rattle.vc_lines.specs.Grammar.{Line, blank, initial_at, final_at, moves, state, entries_of, entry_weight}
 use Rattle.vc_reader.specs.Meaning.{Given, begins, ends, moves_by, only}
 
 -- the weights that entries have

@@ -3,7 +3,7 @@ use Rattle.std.specs.Prelude.{◌≡◌, ◌⊎◌, ◌<◌, true, false, ℕ, L
 use Rattle.std.specs.Borrow.{Bor}
 use Rattle.std.specs.Global.{Vec}
 use Rattle.vc_lines.specs.Names.{is_number, value_of}
-use Rattle.vc_lines.specs.Labels.{unescaped}
+use Rattle.vc_text.specs.Escapes.{unescaped}
 
 -- the key of a name: the value of a number; or a number that is above all of these, and the bytes of the name
 abbrev pub IsKeyOf : ℕ → Vec ℕ → List ℕ → Type 0

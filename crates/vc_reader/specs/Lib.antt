@@ -1,6 +1,4 @@
-pub mod Texts
 pub mod Meaning
-pub mod Classes
 pub mod Spelling
 pub mod Passes
 pub mod Answers

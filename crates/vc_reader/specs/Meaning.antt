@@ -10,9 +10,10 @@ use Rattle.vc_model.specs.Lists.{below}
 use Rattle.vc_model.specs.Sums.{sum_over}
 use Rattle.vc_model.specs.WeightSet.{WeightSet}
 use Rattle.vc_model.specs.Words.{Word}
-use Rattle.vc_lines.specs.Marks.{Mark}
-use Rattle.vc_lines.specs.Grammar.{Line, blank, initial_at, final_at, moves, state, name_of, inside, entries_of, entry_weight, entry_label}
-use Rattle.vc_lines.specs.Labels.{label_words}
+use Rattle.vc_lex.specs.Labels.{label_words}
+use Rattle.vc_lex.specs.Marks.{Mark}
+use Rattle.vc_text.specs.Escapes.{inside}
+use Rattle.vc_lines.specs.Grammar.{Line, blank, initial_at, final_at, moves, state, name_of, entries_of, entry_weight, entry_label}
 
 -- the number of a state is the place of its name
 abbrev pub number_of : List (List ℕ) → List ℕ → ℕ

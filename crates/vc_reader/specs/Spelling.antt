@@ -11,9 +11,9 @@ use Rattle.vc_ring.specs.Texts.{WeightTexts}
 use Rattle.vc_lines.specs.ContextLines.{IsContextLine}
 use Rattle.vc_lines.specs.Heads.{HeadLine, head_line}
 use Rattle.vc_lines.specs.Lines.{lines_of}
-use Rattle.vc_lines.specs.Marks.{Mark, span_of}
+use Rattle.vc_lex.specs.Labels.{IsLabelOver}
+use Rattle.vc_lex.specs.Marks.{Mark, span_of}
 use Rattle.vc_lines.specs.Grammar.{Line, blank, initial_at, final_at, moves, state, line_at, entries_of, entry_label}
-use Rattle.vc_lines.specs.Labels.{IsLabelOver}
 use Rattle.vc_lines.specs.Names.{AreNames}
 use Rattle.vc_reader.specs.Meaning.{given_by, number_of, IsSumOf}
 
@@ -92,4 +92,4 @@ pub record SpellsAutomaton {V : Type 0} (T : WeightTexts V) (text : List ℕ) (s
   pub is_head : head_line 1 (lines_of text) ≡ Some head
   pub is_context : IsContextLine head.line context
   pub spells : SpellsContext context sets weights
-  pub behind : Spells T sets head.behind automaton
+  pub after : Spells T sets head.after automaton

@@ -1,14 +1,14 @@
 ghost use Rattle.std.specs.Prelude.{◌≡◌, ◌<◌, ◌∷◌, [], ℕ, List, length, map, option_to_list, true, IfOk, IsTrue, OnOk};
 ghost use Rattle.std.specs.Option.{option_map};
 ghost use Rattle.vc_reader.specs.Building.{IsAdded, IsWeightAnswer, KeepsShape, entry_weights, line_weights};
-ghost use Rattle.vc_label.specs.Alphabets.{has_letter};
-ghost use Rattle.vc_reader.specs.Classes.{given_at};
-ghost use Rattle.vc_lines.specs.Grammar.{are_parts, entries_of, entry_label, entry_weight, has_labels, have_labels, is_label};
-ghost use Rattle.vc_lines.specs.Labels.{IsClassOver, IsLabelOver, class_words, parts_word};
+ghost use Rattle.vc_lex.specs.Labels.{IsClassOver, IsLabelOver, class_words};
+ghost use Rattle.vc_lex.specs.Parts.{are_parts, is_label, parts_word};
+ghost use Rattle.vc_lex.specs.Views.{seen};
+ghost use Rattle.vc_lines.specs.Grammar.{entries_of, entry_label, entry_weight, has_labels, have_labels};
 ghost use Rattle.vc_reader.specs.Meaning.{begins, ends, given_by, given_by_entry, given_by_entries, moves_with, number_of, only, weight_of};
 ghost use Rattle.vc_lines.specs.Names.{line_names};
 ghost use Rattle.vc_reader.specs.Spelling.{AreEntriesOver, IsLineOver};
-ghost use Rattle.vc_lines.specs.Views.{seen, line_seen};
+ghost use Rattle.vc_lines.specs.Views.{line_seen};
 ghost use Rattle.vc_label.specs.Sets.{IsOverSets};
 ghost use Rattle.vc_model.specs.Lists.{In};
 
@@ -17,10 +17,11 @@ use crate::names::Numbering;
 use std::alloc::Global;
 use std::slice;
 use vc_aut::{Builder, drafts_are_valid};
-use vc_label::{Alphabet, LabelFault, LabelSet, Word, words_are_over_sets};
-use vc_lex::Token;
-use vc_lines::{Line, class_body, class_letters, cut_entry, entry_of, inside, is_class};
+use vc_label::{LabelFault, LabelSet, Word, alphabets_are_sets, words_are_over_sets};
+use vc_lex::{Token, class_body, is_class};
+use vc_lines::{Line, cut_entry, entry_of};
 use vc_ring::{MakeFault, NumberFault, Overflow, Semiring};
+use vc_text::{class_letters, inside};
 
 /// The weight of a token, or one where none stands. It refuses a number that is past its range.
 fn weight_of<S: Semiring>(token: Option<Token<'_>>) -> Result<S::Value, MakeFault<S::Value>>
@@ -82,30 +83,6 @@ fn add_letter<L: LabelSet, S: Semiring>(
     builder.add_transition(arrow.from, label, arrow.to, arrow.weight)
 }
 
-/// Adds a transition with a letter, if it is among these.
-fn add_letter_of<L: LabelSet, S: Semiring>(
-    alloc: Global,
-    builder: &mut Builder<L, S>,
-    labels: &L,
-    letters: Alphabet,
-    arrow: Arrow<S::Value>,
-    letter: u8,
-) -> Result<(), MakeFault<S::Value>>
-    requires sets { builder.old.sets ≡ L.sets labels.now }
-    requires letters { has_letter letters letter ≡ true → IsOverSets (L.sets labels.now) ((letter ∷ []) ∷ []) }
-    requires from { arrow.from < builder.old.automaton.states }
-    requires to { arrow.to < builder.old.automaton.states }
-    requires weight { IsTrue (S.set.in_range arrow.weight) }
-    ensures answer { IsAdded S.set S.spelled S.numbers_fit [] builder.old (given_at letters arrow.from arrow.to arrow.weight letter) builder.new result }
-    ensures kept { OnOk result (KeepsShape builder.old builder.new) }
-{
-    if letters.has(letter) {
-        add_letter(alloc, builder, labels, arrow, letter)
-    } else {
-        Ok(())
-    }
-}
-
 /// Adds a transition for each letter of the class.
 fn add_class<L: LabelSet, S: Semiring>(
     alloc: Global,
@@ -122,9 +99,13 @@ fn add_class<L: LabelSet, S: Semiring>(
     ensures answer { IsAdded S.set S.spelled S.numbers_fit [] builder.old (map (moves_with arrow.from arrow.to arrow.weight) (class_words (L.sets labels.now) body.now)) builder.new result }
     ensures kept { OnOk result (KeepsShape builder.old builder.new) }
 {
-    let letters = class_letters(labels.tape(0).alphabet, body);
-    for letter in 0x21..0x7f {
-        if let Err(fault) = add_letter_of(alloc, builder, labels, letters, arrow, letter) {
+    alphabets_are_sets();
+    let letters = match class_letters(labels.tape(0).alphabet, body) {
+        Some(letters) => letters,
+        None => unreachable!(),
+    };
+    for letter in letters.letters() {
+        if let Err(fault) = add_letter(alloc, builder, labels, arrow, letter) {
             return Err(fault);
         }
     }

@@ -1,19 +1,20 @@
 ghost use Rattle.std.specs.Prelude.{◌≡◌, ◌+◌, ◌<◌, ◌^◌, length, map, true, IfOk, MatchOption, OnOk};
+ghost use Rattle.vc_lex.specs.Marks.{end_of, span_of};
+ghost use Rattle.vc_lex.specs.Views.{seen, AreFit};
 ghost use Rattle.vc_lines.specs.Grammar.{entries_of, have_labels, has_labels};
-ghost use Rattle.vc_lines.specs.Marks.{end_of, span_of};
 ghost use Rattle.vc_reader.specs.Spelling.{AreEntriesOver, IsFirstEntry, IsLineOver, IsFirstInLine};
 ghost use Rattle.vc_lines.specs.Lines.{more_lines};
 ghost use Rattle.vc_reader.specs.NameSets.{AreMarked, names_seen};
 ghost use Rattle.vc_reader.specs.Passes.{IsChecked, IsJudged, first_outside};
-ghost use Rattle.vc_lines.specs.Views.{seen, line_seen, AreFit, IsFitLine};
+ghost use Rattle.vc_lines.specs.Views.{line_seen, IsFitLine};
 
 use crate::fault::DautFault;
 use crate::label::{Tapes, is_label_over};
 use crate::names::Found;
 use std::alloc::{AllocError, Global};
 use vc_label::LabelSet;
-use vc_lex::Token;
-use vc_lines::{Line, cut_entry, cut_line, cut_tokens, entry_of, line_of};
+use vc_lex::{Mode, Token, cut_tokens};
+use vc_lines::{Line, cut_entry, cut_line, entry_of, line_of};
 use vc_ring::Semiring;
 
 /// From which place of its line to which one a label stands.
@@ -114,7 +115,7 @@ fn check_line<'t, L: LabelSet, S: Semiring>(
     ensures judged { IfOk result (IsJudged S.spelled (L.sets labels.now) text.now (names_seen found.old.names) (names_seen found.new.names)) }
     ensures marked { OnOk result (AreMarked found.new.marks.items (names_seen found.new.names)) }
 {
-    if !cut_tokens(text, tokens)? {
+    if cut_tokens(text, Mode::Line, tokens)?.is_some() {
         return Ok(Judged::Bad);
     }
     let Some(line) = line_of::<S>(tokens) else {

@@ -1,15 +1,16 @@
 ghost use Rattle.std.specs.Prelude.{◌≡◌, [], ◌∷◌, map, true, IfOk, IsTrue, MatchBool};
 ghost use Rattle.std.specs.Option.{option_map};
-ghost use Rattle.vc_lines.specs.Grammar.{are_parts, is_label};
+ghost use Rattle.vc_lex.specs.Labels.{IsLabelOver, IsLabelAnswer};
+ghost use Rattle.vc_lex.specs.Parts.{are_parts, is_label, tape_of, parts_word};
+ghost use Rattle.vc_lex.specs.Views.{seen};
+ghost use Rattle.vc_text.specs.Classes.{class_items, has_singles};
 ghost use Rattle.vc_label.specs.Borrowed.{word_of};
 ghost use Rattle.vc_label.specs.Letters.{are_letters};
-ghost use Rattle.vc_lines.specs.Labels.{tape_of, parts_word, unescaped, IsLabelOver, IsLabelAnswer};
-ghost use Rattle.vc_lines.specs.Views.{seen};
 
 use std::alloc::{AllocError, Global};
-use vc_label::{LabelFault, LabelSet, Word, words_are_over_sets};
-use vc_lex::{Token, TokenKind};
-use vc_lines::{has_singles, inside, is_class};
+use vc_label::{Alphabet, LabelFault, LabelSet, Word, words_are_over_sets};
+use vc_lex::{Token, TokenKind, is_class};
+use vc_text::{class_letters, inside, unescape};
 
 /// Room for the letters of the parts of a label.
 #[derive(Drop)]
@@ -31,34 +32,13 @@ impl Tapes {
     }
 }
 
-/// Writes the bytes of a text, each without the backslash before it, in place of what is there.
-pub(crate) fn unescape(text: &[u8], into: &mut Vec<u8>) -> Result<(), AllocError>
-    ensures { IfOk result (λ _. into.new.items ≡ unescaped text.now) }
-{
-    into.clear();
-    let mut rest = text;
-    while let [first, after @ ..] = rest {
-        match after {
-            [second, behind @ ..] if *first == b'\\' => {
-                into.push(*second)?;
-                rest = behind;
-            }
-            _ => {
-                into.push(*first)?;
-                rest = after;
-            }
-        }
-    }
-    Ok(())
-}
-
 /// Writes the letters of a part. False where some byte of it is no letter.
 fn write_tape(token: Token<'_>, into: &mut Vec<u8>) -> Result<bool, AllocError>
     ensures tape { IfOk result (λ _. into.new.items ≡ tape_of (seen token.entry)) }
     ensures letters { IfOk result (λ b. b ≡ are_letters (tape_of (seen token.entry))) }
 {
     match token.kind {
-        TokenKind::Run => unescape(token.text, into)?,
+        TokenKind::Letter | TokenKind::Run => unescape(token.text, into)?,
         TokenKind::Quoted => unescape(inside(token.text), into)?,
         _ => into.clear(),
     }
@@ -220,6 +200,13 @@ pub(crate) fn parts_label<L: LabelSet>(
     Ok(None)
 }
 
+/// Whether each letter that stands alone in the class is in the alphabet.
+fn is_class_of(alphabet: Alphabet, body: &[u8]) -> bool
+    ensures { result ≡ has_singles alphabet (class_items body.now) }
+{
+    class_letters(alphabet, body).is_some()
+}
+
 /// Whether the label is in the label set: as a class, or by its parts.
 pub(crate) fn is_label_over<L: LabelSet>(
     alloc: Global,
@@ -232,7 +219,7 @@ pub(crate) fn is_label_over<L: LabelSet>(
 {
     match label {
         [class] if is_class(label) => {
-            Ok(labels.tapes() == 1 && has_singles(labels.tape(0).alphabet, inside(class.text)))
+            Ok(labels.tapes() == 1 && is_class_of(labels.tape(0).alphabet, inside(class.text)))
         }
         _ => Ok(parts_label(alloc, labels, tapes, label)?.is_some()),
     }

@@ -4,16 +4,17 @@ ghost use Rattle.std.specs.List.{list_all};
 ghost use Rattle.vc_reader.specs.NameSets.{AreMarked, AreNumbers, names_seen};
 ghost use Rattle.vc_lines.specs.Names.{is_digit, has_no_zero_in_front, is_number, value_of, line_names, with_name, with_names, AreInOrder};
 ghost use Rattle.vc_reader.specs.Keys.{IsKeyOf, IsKeyed};
+ghost use Rattle.vc_lex.specs.Views.{seen};
 ghost use Rattle.vc_lines.specs.Grammar.{name_of};
 ghost use Rattle.vc_reader.specs.Meaning.{number_of};
-ghost use Rattle.vc_lines.specs.Views.{seen, line_seen};
+ghost use Rattle.vc_lines.specs.Views.{line_seen};
 
-use crate::label::unescape;
 use indexmap::IndexSet;
 use std::alloc::{AllocError, Global};
 use std::marker::Model;
 use vc_lex::Token;
 use vc_lines::{Line, name_of};
+use vc_text::unescape;
 
 /// The names of states, each once; a name is written as it stands in double quotes.
 pub(crate) type Names<'t> = IndexSet<&'t [u8]>;

@@ -2,7 +2,7 @@ ghost use Rattle.std.specs.Prelude.{◌≡◌, true, ◌+◌, ◌<◌, ◌≤◌
 ghost use Rattle.vc_reader.specs.declared.fault.DautFault.TheVariants.{Syntax};
 ghost use Rattle.std.specs.List.{flat_map};
 ghost use Rattle.vc_reader.specs.Building.{IsAdded, KeepsShape, line_weights};
-ghost use Rattle.vc_reader.specs.Answers.{IsBuiltBy, IsReadBehind};
+ghost use Rattle.vc_reader.specs.Answers.{IsBuiltBy, IsReadAfter};
 ghost use Rattle.vc_lines.specs.Heads.{HeadLine, head_line};
 ghost use Rattle.vc_lines.specs.Lines.{lines_of, more_lines};
 ghost use Rattle.vc_reader.specs.Meaning.{given_by, number_of};
@@ -19,8 +19,8 @@ use crate::names::{Found, Numbering, in_order};
 use std::alloc::Global;
 use vc_aut::{Automaton, Builder, drafts_are_valid};
 use vc_label::LabelSet;
-use vc_lex::Token;
-use vc_lines::{Head, cut_line, cut_tokens, head_of, line_of};
+use vc_lex::{Mode, Token, cut_tokens};
+use vc_lines::{Head, cut_line, head_of, line_of};
 use vc_ring::{Limit, MakeFault, Measure, Semiring, Weighed};
 
 const MOST_STATES: u64 = 1_000_000;
@@ -53,9 +53,9 @@ fn add_text<'t, L: LabelSet, S: Semiring>(
         (given_by S.set S.spelled (L.sets labels.now) (number_of numbering.now) (line_in S.spelled text.now)) builder.new result }
     ensures kept { OnOk result (KeepsShape builder.old builder.new) }
 {
-    match cut_tokens(text, tokens) {
-        Ok(true) => {}
-        Ok(false) => return Ok(()),
+    match cut_tokens(text, Mode::Line, tokens) {
+        Ok(None) => {}
+        Ok(Some(_)) => return Ok(()),
         Err(e) => return Err(MakeFault::Memory(e)),
     }
     let Some(line) = line_of::<S>(tokens) else {
@@ -167,7 +167,7 @@ pub fn read_daut<L: LabelSet, S: Semiring>(
     ensures sets { IfOk result (λ a. a.sets ≡ L.sets labels) }
     ensures states { IfOk result (λ a. a.automaton.states ≤ 1000000) }
     ensures blank { head_line 1 (lines_of bytes.now) ≡ None → result ≡ Err (Syntax (length (lines_of bytes.now))) }
-    ensures behind { (h : HeadLine) → head_line 1 (lines_of bytes.now) ≡ Some h → IsReadBehind ⟦<S as Weighed>⟧.texts (L.sets labels) h result }
+    ensures after { (h : HeadLine) → head_line 1 (lines_of bytes.now) ≡ Some h → IsReadAfter ⟦<S as Weighed>⟧.texts (L.sets labels) h result }
 {
     let (line, text) = match head_of(bytes) {
         Head::Blank(line) => return Err(DautFault::Syntax { line }),

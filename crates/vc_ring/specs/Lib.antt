@@ -3,3 +3,4 @@ pub mod Sums
 pub mod Texts
 pub mod WeightBytes
 pub mod Splits
+pub mod Weighed

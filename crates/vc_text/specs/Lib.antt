@@ -6,3 +6,4 @@ pub mod Fronts
 pub mod Classes
 pub mod ItemViews
 pub mod Items
+pub mod Escapes

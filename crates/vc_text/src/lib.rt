@@ -3,6 +3,7 @@
 
 mod blanks;
 mod classes;
+mod escapes;
 mod growing;
 mod laws;
 mod letters;
@@ -11,6 +12,7 @@ mod tests;
 
 pub use blanks::{after_blanks, is_blank};
 pub use classes::class_letters;
+pub use escapes::{inside, unescape};
 pub use growing::{cut_back, push_byte, push_letter, push_number, push_text};
 pub use laws::items_are_read;
 pub use letters::{LetterAt, is_escaped, is_plain, letter_at};

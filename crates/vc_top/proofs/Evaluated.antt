@@ -37,7 +37,7 @@ pub value_at : {V : Type 0} (R : WeightSet V) (v : V) (A : Automaton V) (u w : W
     → (v ≡ coefficient R A u) × AllFit R (forward_steps R A u) → (v ≡ coefficient R A w) × AllFit R (forward_steps R A w)
 value_at {V} R v A u w f p = subst (λ x. (v ≡ coefficient R A x) × AllFit R (forward_steps R A x)) f p
 
--- what is made, and what comes behind
+-- what is made, and what comes after
 pub cause_given : {V : Type 0} (cause : Option (MakeFault V)) (R : Outcome Bytes) (a : Answer) → cause ≡ None → OrMemory R a → OrMemory (UnlessCause cause R) a
 cause_given {V} cause R a e p = wider R (UnlessCause cause R) a a (λ m. m) p (λ q. inr (none cause e, q))
   where

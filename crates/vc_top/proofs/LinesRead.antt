@@ -77,7 +77,9 @@ module _ {V : Type 0} (T : WeightTexts V) where
     module _
         (apart : (x y : Result (Labelled V) (DautFault V)) → Read x → Read y → IsSameReading x y)
         (added : (line : ℕ) (v w : V) → answer.IsUnfit T sets h line (make.Overflow (Add v w)) → IsUnfitAddition T sets h line v w)
-        (counted : (most : ℕ) → IsPastLimit T sets h (record { what = Transitions; most = most }) → (most ≡ 4000000) × HasManyTriples T sets h) where
+        (counted : (most : ℕ) → IsPastLimit T sets h (record { what = Transitions; most = most }) → (most ≡ 4000000) × HasManyTriples T sets h)
+        (fits : (a : Labelled V) (line : ℕ) (v w : V) → answer.IsBuilt T sets h a → IsUnfitAddition T sets h line v w → ⊥)
+        (few : (a : Labelled V) → answer.IsBuilt T sets h a → HasManyTriples T sets h → ⊥) where
       -- an answer that is no want of memory and nothing past bounds excludes each other one
       alone : (x y : Result (Labelled V) (DautFault V)) → ¬ IsWantOfMemory x → ¬ IsWantOfMemory y → ¬ (IsPastBounds x × IsPastBounds y) → ¬ (x ≡ y) → Read x → Read y → ⊥
       alone x y mx my p d rx ry = go (apart x y rx ry)
@@ -97,7 +99,7 @@ module _ {V : Type 0} (T : WeightTexts V) where
       IsSound (Err (fault.Limit l)) = Unit {0}
       IsSound (Err (fault.Memory e)) = ⊥
 
-      sound_lines : (x : Result (Labelled V) (DautFault V)) → IsSound x → Read x → bad_line T.spelled (h.number + 1) h.behind ≡ None
+      sound_lines : (x : Result (Labelled V) (DautFault V)) → IsSound x → Read x → bad_line T.spelled (h.number + 1) h.after ≡ None
       sound_lines (Ok a) s r = r.are_lines
       sound_lines (Err (fault.Syntax line)) s r = absurd s
       sound_lines (Err (fault.NotALabel line from to)) s r = absurd s
@@ -117,7 +119,7 @@ module _ {V : Type 0} (T : WeightTexts V) where
       has_memory (Err (fault.Memory e)) s m = s
 
       no_bad : (x : Result (Labelled V) (DautFault V)) → IsSound x → Read x → (line : ℕ) → ¬ IsBadLine T h line
-      no_bad x s r line b = none_some (bad_line T.spelled (h.number + 1) h.behind) (sound_lines x s r) b
+      no_bad x s r line b = none_some (bad_line T.spelled (h.number + 1) h.after) (sound_lines x s r) b
         where
           none_some : (o : Option ℕ) → o ≡ None → o ≡ Some line → ⊥
           none_some o e f = cc (sym e ∙ f)
@@ -126,14 +128,14 @@ module _ {V : Type 0} (T : WeightTexts V) where
       no_first x s r p f =
           alone x (Err (fault.NotALabel p.0 p.1.0 p.1.1)) (has_memory x s) (λ m. m) (λ b. b.1) (λ e. subst IsSound e s) r (sound_lines x s r, f)
 
-      -- behind the first two refusals
-      behind : (x : Result (Labelled V) (DautFault V)) → IsSound x → Read x → (a : Result (Labelled V) Reason)
+      -- after the first two refusals
+      after : (x : Result (Labelled V) (DautFault V)) → IsSound x → Read x → (a : Result (Labelled V) Reason)
           → UnlessAny (IsUnfit T sets h) (λ reason. reason) (ForSuch (SpellsLines T sets h) (λ A. Gives (over sets A))) a → ReadsLines T file sets h a
-      behind x s r a q = inr (no_bad x s r, inr (no_first x s r, q))
+      after x s r a q = inr (no_bad x s r, inr (no_first x s r, q))
 
       -- a refusal of what is in the grammar
       unfit : (x : Result (Labelled V) (DautFault V)) → IsSound x → Read x → (reason : Reason) → IsUnfit T sets h reason → OrMemory (ReadsLines T file sets h) (Err reason)
-      unfit x s r reason u = inr (behind x s r (Err reason) (inl (reason, u, refl)))
+      unfit x s r reason u = inr (after x s r (Err reason) (inl (reason, u, refl)))
 
       no_unfit_file : (a : Labelled V) → Read (Ok a) → (reason : Reason) → ¬ IsUnfit T sets h reason
       no_unfit_file a r reason u = go u
@@ -143,16 +145,16 @@ module _ {V : Type 0} (T : WeightTexts V) where
 
           go : IsUnfit T sets h reason → ⊥
           go (inl (e, inl (line, at, n))) = past (fault.Overflow line (Numeral at)) (λ m. m) ((r.are_lines, r.over), n)
-          go (inl (e, inr (line, v, w, n, q))) = past (fault.Overflow line (Add v w)) (λ m. m) q
+          go (inl (e, inr (line, v, w, n))) = fits a line v w r n
           go (inr (inl (e, n))) = past (fault.Limit states_limit) (λ m. m) ((r.are_lines, r.over), inl (refl, n))
-          go (inr (inr (e, (n, q)))) = past (fault.Limit transitions_limit) (λ m. m) q
+          go (inr (inr (e, n))) = few a r n
 
       pub automaton_read : (x : Labelled V) → Read (Ok x) → SpellsLines T sets h x.automaton → x.sets ≡ sets → ReadsLines T file sets h (Ok x)
-      automaton_read x r l e = behind (Ok x) tt r (Ok x) (inr (no_unfit_file x r, (x.automaton, l, ap (λ s. Ok (over s x.automaton)) e)))
+      automaton_read x r l e = after (Ok x) tt r (Ok x) (inr (no_unfit_file x r, (x.automaton, l, ap (λ s. Ok (over s x.automaton)) e)))
 
       limit_read : (l : PastLimit) → Read (Err (fault.Limit l)) → IsPastLimit T sets h l → OrMemory (ReadsLines T file sets h) (Err (limit (Of l.what)))
       limit_read l r (inl p) = subst (λ (m : PastLimit). OrMemory (ReadsLines T file sets h) (Err (limit (Of m.what)))) (sym p.0) (unfit (Err (fault.Limit l)) tt r (limit (Of States)) (inr (inl (refl, p.1))))
-      limit_read l r (inr (names, n, q)) = subst (λ (m : PastLimit). OrMemory (ReadsLines T file sets h) (Err (limit (Of m.what)))) (sym e) (unfit (Err (fault.Limit transitions_limit)) tt at (limit (Of Transitions)) (inr (inr (refl, ((counted 4000000 at.1).1, at)))))
+      limit_read l r (inr (names, n, q)) = subst (λ (m : PastLimit). OrMemory (ReadsLines T file sets h) (Err (limit (Of m.what)))) (sym e) (unfit (Err (fault.Limit transitions_limit)) tt at (limit (Of Transitions)) (inr (inr (refl, (counted 4000000 at.1).1))))
         where
           e : l ≡ transitions_limit
           e = refused_limit T.set _ _ l q
@@ -164,10 +166,10 @@ module _ {V : Type 0} (T : WeightTexts V) where
       fault_read (fault.Syntax line) r = inr (inl (line, r, refl))
       fault_read (fault.NotALabel line from to) r = inr (inr (no_line r.0, inl ((line, (from, to)), r.1, refl)))
         where
-          no_line : bad_line T.spelled (h.number + 1) h.behind ≡ None → (n : ℕ) → ¬ IsBadLine T h n
+          no_line : bad_line T.spelled (h.number + 1) h.after ≡ None → (n : ℕ) → ¬ IsBadLine T h n
           no_line e n b = cc (sym e ∙ b)
       fault_read (fault.Overflow line (Numeral at)) r = unfit (Err (fault.Overflow line (Numeral at))) tt r overflow (inl (refl, inl (line, at, r.1)))
-      fault_read (fault.Overflow line (Add v w)) r = unfit (Err (fault.Overflow line (Add v w))) tt r overflow (inl (refl, inr (line, v, w, added line v w r.1, r)))
+      fault_read (fault.Overflow line (Add v w)) r = unfit (Err (fault.Overflow line (Add v w))) tt r overflow (inl (refl, inr (line, v, w, added line v w r.1)))
       fault_read (fault.Overflow line (Mul v w)) r = absurd r
       fault_read (fault.Overflow line (Star v)) r = absurd r
       fault_read (fault.Limit l) r = limit_read l r r.1

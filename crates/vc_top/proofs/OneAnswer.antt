@@ -10,9 +10,9 @@ use Rattle.vc_command.specs.Requests.{Asked}
 use Rattle.vc_context.specs.Spelling.{SpellsContext}
 use Rattle.vc_context.specs.declared.context.Weights.{Weights}
 use Rattle.vc_context.specs.declared.context.Weights.TheVariants.{B, F2, Z, Q, Nmin}
-use Rattle.vc_reader.specs.Answers.{IsReadBehind}
+use Rattle.vc_reader.specs.Answers.{IsReadAfter}
 use Rattle.vc_lines.specs.ContextLines.{IsContextLine}
-use Rattle.vc_lines.specs.Contexts.{context_text}
+use Rattle.vc_lines.specs.Contexts.{context_in_line}
 use Rattle.vc_lines.specs.Heads.{HeadLine, head_line}
 use Rattle.vc_lines.specs.Lines.{lines_of}
 use Rattle.vc_reader.specs.Readings.{IsSameReading}
@@ -22,7 +22,7 @@ use Rattle.vc_reader.specs.declared.fault.DautFault.TheVariants as fault
 use Rattle.vc_files.specs.Files.{Bytes, Held, Holds}
 use Rattle.vc_label.specs.declared.tape_set.TapeSet.{TapeSet}
 use Rattle.vc_model.specs.Automata.{Automaton}
-use Rattle.vc_model.specs.WeightSet.{WeightSet, SemiringLaws}
+use Rattle.vc_model.specs.WeightSet.{SemiringLaws}
 use Rattle.vc_rat.specs.RationalLaws.{rational_laws}
 use Rattle.vc_rat.specs.declared.fraction.Fraction.{Fraction}
 use Rattle.vc_ring.specs.declared.faults.Measure.TheVariants.{Bytes as BytesOf}
@@ -56,7 +56,7 @@ OneAutomaton V = (T : WeightTexts V) → SemiringLaws T.set → (sets : List Tap
 
 -- the answers of the reader over these elements exclude each other
 abbrev pub AreApart : Type 0 → Type 0
-AreApart V = (T : WeightTexts V) (sets : List TapeSet) (h : HeadLine) (x y : Result (Labelled V) (DautFault V)) → IsReadBehind T sets h x → IsReadBehind T sets h y → IsSameReading x y
+AreApart V = (T : WeightTexts V) (sets : List TapeSet) (h : HeadLine) (x y : Result (Labelled V) (DautFault V)) → IsReadAfter T sets h x → IsReadAfter T sets h y → IsSameReading x y
 
 -- the lines of a file
 module _ {V : Type 0} (T : WeightTexts V)
@@ -74,7 +74,7 @@ module _ {V : Type 0} (T : WeightTexts V)
   abbrev no_label_at : ℕ × (ℕ × ℕ) → Result (Labelled V) (DautFault V)
   no_label_at x = Err (fault.NotALabel x.0 x.1.0 x.1.1)
 
-  labels_alike : bad_line T.spelled (h.number + 1) h.behind ≡ None → (x y : ℕ × (ℕ × ℕ)) → IsForeignLabel T sets h x → IsForeignLabel T sets h y → Alike {X = Labelled V} ⊥ (Err (no_label (in_line file x.0))) (Err (no_label (in_line file y.0)))
+  labels_alike : bad_line T.spelled (h.number + 1) h.after ≡ None → (x y : ℕ × (ℕ × ℕ)) → IsForeignLabel T sets h x → IsForeignLabel T sets h y → Alike {X = Labelled V} ⊥ (Err (no_label (in_line file x.0))) (Err (no_label (in_line file y.0)))
   labels_alike n x y p q = go (apart sets h (no_label_at x) (no_label_at y) (n, p) (n, q))
     where
       go : IsSameReading (no_label_at x) (no_label_at y) → Alike {X = Labelled V} ⊥ (Err (no_label (in_line file x.0))) (Err (no_label (in_line file y.0)))
@@ -91,23 +91,23 @@ module _ {V : Type 0} (T : WeightTexts V)
   lines : IsLawful Every ⊥ (ReadsLines T file sets h)
   lines =
       any Every ⊥ (IsBadLine T h) (λ line. syntax (in_line file line)) _ (λ x p. tt)
-      (λ x y p q. inr (inl (ap (λ n. Err (syntax (in_line file n))) (some_same (bad_line T.spelled (h.number + 1) h.behind) x y p q)))) (λ n.
-      any Every ⊥ (IsForeignLabel T sets h) (λ p. no_label (in_line file p.0)) _ (λ x p. tt) (labels_alike (no_bad_line (bad_line T.spelled (h.number + 1) h.behind) n)) (λ m.
+      (λ x y p q. inr (inl (ap (λ n. Err (syntax (in_line file n))) (some_same (bad_line T.spelled (h.number + 1) h.after) x y p q)))) (λ n.
+      any Every ⊥ (IsForeignLabel T sets h) (λ p. no_label (in_line file p.0)) _ (λ x p. tt) (labels_alike (no_bad_line (bad_line T.spelled (h.number + 1) h.after) n)) (λ m.
       any Every ⊥ (IsUnfit T sets h) (λ reason. reason) _ (λ x p. tt) (λ x y p q. inr (inr (inl (unfit_past x p, unfit_past y q)))) (λ k.
-      for_such Every ⊥ (SpellsLines T sets h) _ (one sets h.behind) (λ A. gives Every ⊥ _))))
+      for_such Every ⊥ (SpellsLines T sets h) _ (one sets h.after) (λ A. gives Every ⊥ _))))
 
 abbrev headed : HeadLine → List TapeSet → Weights → Headed
 headed h sets weights = record { head = h; sets = sets; weights = weights }
 
 module _
-    (read : (line text : Bytes) → IsContextLine line text → context_text line ≡ Some text)
+    (read : (line text : Bytes) → IsContextLine line text → context_in_line line ≡ Some text)
     (contexts : (text : Bytes) (sets others : List TapeSet) (weights other : Weights) → SpellsContext text sets weights → SpellsContext text others other → (sets ≡ others) × (weights ≡ other))
     (truths : OneAutomaton Bool) (wholes : OneAutomaton ℤ) (fractions : OneAutomaton Fraction) (costs : OneAutomaton NminValue)
     (truths_apart : AreApart Bool) (wholes_apart : AreApart ℤ) (fractions_apart : AreApart Fraction) (costs_apart : AreApart NminValue) where
   one_head : (bytes : Bytes) (f g : Headed) → HasContext bytes f → HasContext bytes g → f ≡ g
   one_head bytes f g p q =
       let e = some_same (head_line 1 (lines_of bytes)) f.head g.head p.is_head q.is_head in
-      let t = some_same (context_text g.head.line) p.text q.text (read g.head.line p.text (subst (λ (h : HeadLine). IsContextLine h.line p.text) e p.is_context)) (read g.head.line q.text q.is_context) in
+      let t = some_same (context_in_line g.head.line) p.text q.text (read g.head.line p.text (subst (λ (h : HeadLine). IsContextLine h.line p.text) e p.is_context)) (read g.head.line q.text q.is_context) in
       let k = contexts q.text f.sets g.sets f.weights g.weights (subst (λ x. SpellsContext x f.sets f.weights) t p.spells) q.spells in
       ap (λ h. headed h f.sets f.weights) e ∙ ap (λ s. headed g.head s f.weights) k.0 ∙ ap (λ w. headed g.head g.sets w) k.1
 

@@ -5,7 +5,7 @@ use Rattle.vc_aut.specs.Labelled.{Labelled}
 use Rattle.vc_context.specs.Spelling.{SpellsContext}
 use Rattle.vc_context.specs.declared.context.Weights.{Weights}
 use Rattle.vc_reader.specs.Additions.{HasManyTriples, IsUnfitAddition}
-use Rattle.vc_reader.specs.Answers.{IsReadBehind}
+use Rattle.vc_reader.specs.Answers.{IsReadAfter}
 use Rattle.vc_lines.specs.ContextLines.{IsContextLine}
 use Rattle.vc_lines.specs.Heads.{HeadLine, head_line}
 use Rattle.vc_lines.specs.Lines.{lines_of}
@@ -13,12 +13,10 @@ use Rattle.vc_lines.specs.Names.{line_names, with_names}
 use Rattle.vc_reader.specs.Passes.{IsNumeralAt}
 use Rattle.vc_reader.specs.Spelling.{Spells, bad_line, lines_in, IsFirstLabel}
 use Rattle.vc_reader.specs.declared.fault.DautFault.{DautFault}
-use Rattle.vc_reader.specs.declared.fault.DautFault.TheVariants.{Overflow, Limit}
 use Rattle.vc_files.specs.Files.{Bytes}
 use Rattle.vc_label.specs.declared.tape_set.TapeSet.{TapeSet}
 use Rattle.vc_model.specs.Automata.{Automaton}
 use Rattle.vc_ring.specs.declared.faults.Measure.TheVariants.{States, Transitions, Bytes as BytesOf}
-use Rattle.vc_ring.specs.declared.faults.Overflow.TheVariants.{Add}
 use Rattle.vc_ring.specs.Texts.{WeightTexts}
 use Rattle.vc_top.specs.Outcomes.{ForSuch, Gives, Outcome, Then, Unless, UnlessAny, WithOne}
 use Rattle.vc_top.specs.Reasons.{Reason, in_line, syntax, no_label, overflow, limit, unread}
@@ -51,35 +49,35 @@ pub record Input : Type 0 where
 module _ {V : Type 0} (T : WeightTexts V) where
   -- the reader may answer this, where `h` is the context line
   abbrev pub IsReading : List TapeSet → HeadLine → Result (Labelled V) (DautFault V) → Type 0
-  IsReading = IsReadBehind T
+  IsReading = IsReadAfter T
 
   -- the lines after the context line spell this automaton
   abbrev pub SpellsLines : List TapeSet → HeadLine → Automaton V → Type 0
-  SpellsLines sets h = Spells T sets h.behind
+  SpellsLines sets h = Spells T sets h.after
 
   -- the first text after the context line that is no line of the grammar has this number
   abbrev pub IsBadLine : HeadLine → ℕ → Type 0
-  IsBadLine h line = bad_line T.spelled (h.number + 1) h.behind ≡ Some line
+  IsBadLine h line = bad_line T.spelled (h.number + 1) h.after ≡ Some line
 
   -- the first label that is not in the label sets stands in the line of this number, from the first of these bytes to the second
   abbrev pub IsForeignLabel : List TapeSet → HeadLine → ℕ × (ℕ × ℕ) → Type 0
-  IsForeignLabel sets h p = IsFirstLabel sets (h.number + 1) (lines_in T.spelled h.behind) p.0 p.1
+  IsForeignLabel sets h p = IsFirstLabel sets (h.number + 1) (lines_in T.spelled h.after) p.0 p.1
 
   -- a numeral in a weight is past its range
   abbrev pub HasNumeral : HeadLine → Type 0
-  HasNumeral h = (line at : ℕ) × IsNumeralAt T.set T.spelled T.numbers_fit (h.number + 1) (lines_in T.spelled h.behind) line at
+  HasNumeral h = (line at : ℕ) × IsNumeralAt T.set T.spelled T.numbers_fit (h.number + 1) (lines_in T.spelled h.after) line at
 
-  -- a line adds a weight to the sum of those before it, of the same state, or of the same source, label and target, and this sum does not fit; reading stops there
+  -- a line adds a weight to the sum of those before it, of the same state, or of the same source, label and target, and this sum does not fit
   abbrev pub HasUnfitAddition : List TapeSet → HeadLine → Type 0
-  HasUnfitAddition sets h = (line : ℕ) × (v w : V) × IsUnfitAddition T sets h line v w × IsReading sets h (Err (Overflow line (Add v w)))
+  HasUnfitAddition sets h = (line : ℕ) × (v w : V) × IsUnfitAddition T sets h line v w
 
   -- the lines name more than 1,000,000 states
   abbrev pub HasManyStates : HeadLine → Type 0
-  HasManyStates h = 1000000 < length (with_names [] (flat_map line_names (lines_in T.spelled h.behind)))
+  HasManyStates h = 1000000 < length (with_names [] (flat_map line_names (lines_in T.spelled h.after)))
 
-  -- the lines have transitions of more than 4,000,000 sources, labels and targets, and reading stops there
+  -- the lines have transitions of more than 4,000,000 sources, labels and targets
   abbrev pub HasManyTransitions : List TapeSet → HeadLine → Type 0
-  HasManyTransitions sets h = HasManyTriples T sets h × IsReading sets h (Err (Limit (record { what = Transitions; most = 4000000 })))
+  HasManyTransitions sets h = HasManyTriples T sets h
 
   -- a reason to refuse lines that are in the grammar and whose labels are in the label sets
   abbrev pub IsUnfit : List TapeSet → HeadLine → Reason → Type 0

@@ -9,5 +9,5 @@ loop-rest-preserved c =
     let h : 0 < length rest = search rules in
     let e : begins_quote rest ≡ false = search rules in
     let s = still_before begins_quote c.args.text.now rest h e c.loop-rest.invariant.0 in
-    let l = c.behind_one-rest.ensures.shorter h in
-    (subst (λ r. before begins_quote c.args.text.now + length r ≡ before begins_quote r + length c.args.text.now) (sym c.behind_one-rest.ensures.value) s, omega (arith, l, c.loop-rest.invariant.1))
+    let l = c.after_one-rest.ensures.shorter h in
+    (subst (λ r. before begins_quote c.args.text.now + length r ≡ before begins_quote r + length c.args.text.now) (sym c.after_one-rest.ensures.value) s, omega (arith, l, c.loop-rest.invariant.1))

@@ -1,7 +1,8 @@
 use Rattle.std.proofs.Common.{◌≡◌, map}
 use Rattle.std.specs.List.{list_all}
+use Rattle.vc_lex.specs.Views.{seen}
 use Rattle.vc_lines.specs.Grammar.{are_entries, is_entry}
-use Rattle.vc_lines.specs.Views.{seen, more_entries, tokens_left}
+use Rattle.vc_lines.specs.Views.{more_entries, tokens_left}
 use Rattle.vc_lines.proofs.line.are_entries.Given as goal
 
 abbrev pub invariant-loop-rest : goal.invariant-loop-rest

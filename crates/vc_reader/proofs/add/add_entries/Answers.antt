@@ -1,10 +1,11 @@
 use Rattle.std.proofs.Common.{◌≡◌, [], ◌∷◌, ◌∙◌, ap, sym, subst, Ok, Err, refl, map}
 use Rattle.std.specs.Prelude.{option_to_list}
 use Rattle.vc_reader.specs.Building.{IsAdded, entry_weights}
+use Rattle.vc_lex.specs.Views.{seen}
 use Rattle.vc_lines.specs.Grammar.{entry_weight}
 use Rattle.vc_reader.specs.Meaning.{given_by_entry, given_by_entries}
 use Rattle.vc_reader.specs.Spelling.{AreEntriesOver}
-use Rattle.vc_lines.specs.Views.{seen, more_entries}
+use Rattle.vc_lines.specs.Views.{more_entries}
 use Rattle.vc_reader.proofs.Additions.{leads_more, refused_more}
 use Rattle.vc_reader.proofs.EntryLabels.{entry_labels}
 use Rattle.vc_reader.proofs.add.add_entries.Goals as goal

@@ -1,9 +1,10 @@
 use Rattle.std.proofs.Common.{◌≡◌, map, true}
 use Rattle.vc_reader.specs.Building.{KeepsShape, entry_weights}
+use Rattle.vc_lex.specs.Views.{seen}
 use Rattle.vc_lines.specs.Grammar.{entries_of, have_labels}
 use Rattle.vc_reader.specs.Meaning.{given_by_entries}
 use Rattle.vc_reader.specs.Spelling.{AreEntriesOver}
-use Rattle.vc_lines.specs.Views.{seen, more_entries, tokens_left}
+use Rattle.vc_lines.specs.Views.{more_entries, tokens_left}
 use Rattle.vc_reader.proofs.Additions.{LeadsTo}
 use Rattle.vc_reader.proofs.add.add_entries.Given as goal
 

@@ -1,10 +1,11 @@
 use Rattle.std.proofs.Common.{sym, subst, refl, inl, inr, map}
 use Rattle.vc_model.specs.Lists.{In}
 use Rattle.vc_reader.specs.Building.{IsAdded, entry_weights, line_weights}
+use Rattle.vc_lex.specs.Views.{seen}
 use Rattle.vc_lines.specs.Grammar.{entries_of, name_of}
 use Rattle.vc_reader.specs.Meaning.{given_by, given_by_entries, number_of}
 use Rattle.vc_lines.specs.Names.{line_names}
-use Rattle.vc_lines.specs.Views.{seen, line_seen}
+use Rattle.vc_lines.specs.Views.{line_seen}
 use Rattle.vc_reader.proofs.add.add_line.Goals as goal
 
 pub number-requires-clause-named : goal.number-requires-clause-named

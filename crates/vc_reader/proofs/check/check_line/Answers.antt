@@ -1,5 +1,6 @@
 use Rattle.std.proofs.Common.{sym, map}
-use Rattle.vc_lines.specs.Views.{seen, line_seen}
+use Rattle.vc_lex.specs.Views.{seen}
+use Rattle.vc_lines.specs.Views.{line_seen}
 use Rattle.vc_reader.proofs.EntryLabels.{labels_of}
 use Rattle.vc_reader.proofs.check.check_line.Goals as goal
 

@@ -1,6 +1,6 @@
 use Rattle.std.proofs.Common.{◌≡◌, ◌+◌, ◌<◌, ◌^◌, drop, length, map}
-use Rattle.vc_lines.specs.Marks.{end_of}
-use Rattle.vc_lines.specs.Views.{seen, AreFit}
+use Rattle.vc_lex.specs.Marks.{end_of}
+use Rattle.vc_lex.specs.Views.{seen, AreFit}
 use Rattle.vc_reader.proofs.check.end_of.Given as goal
 
 abbrev pub invariant-loop-token : goal.invariant-loop-token

@@ -1,6 +1,7 @@
 use Rattle.std.proofs.Common.{◌≡◌, ◌∷◌, ◌∙◌, ap, sym, subst, map, true}
-use Rattle.vc_lines.specs.Grammar.{is_label}
-use Rattle.vc_lines.specs.Views.{seen, more_entries, AreFitBehind}
+use Rattle.vc_lex.specs.Parts.{is_label}
+use Rattle.vc_lex.specs.Views.{seen}
+use Rattle.vc_lines.specs.Views.{more_entries, AreFitAfter}
 use Rattle.vc_reader.proofs.EntryLabels.{entry_labels, over_more, first_later, if_true}
 use Rattle.vc_reader.proofs.check.outside_entries.Goals as goal
 
@@ -16,7 +17,7 @@ loop-rest-preserved g c =
     let w : more_entries c.loop-rest.rest ≡ map seen c.cut_entry.result.0.now ∷ more_entries c.cut_entry.result.1 = ap more_entries c.in-Some.is ∙ c.cut_entry.ensures.entries in
     let o = if_true _ _ c.in_ok-is_label_over.field-0 c.if-not-branch.false c.in_ok-is_label_over.ensures in (
       (entry_labels _ _ _ w i.0).1,
-      (c.cut_entry.ensures.fit (subst AreFitBehind c.in-Some.is i.1)).1,
+      (c.cut_entry.ensures.fit (subst AreFitAfter c.in-Some.is i.1)).1,
       (λ h. i.2 (over_more sets _ _ _ _ w c.entry_of.ensures.label o h)),
       (λ p h. i.3 p (first_later sets _ _ _ _ p w c.entry_of.ensures.label o h)),
     )

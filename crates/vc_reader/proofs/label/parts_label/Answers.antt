@@ -1,7 +1,7 @@
 use Rattle.std.proofs.Common.{subst}
 use Rattle.std.specs.Result.{IfOk}
 use Rattle.std.specs.Option.{option_map}
-use Rattle.vc_lines.specs.Labels.{IsLabelAnswer}
+use Rattle.vc_lex.specs.Labels.{IsLabelAnswer}
 use Rattle.vc_reader.proofs.Parts.{seven_parts, many_parts}
 use Rattle.vc_reader.proofs.label.parts_label.Goals as goal
 

@@ -1,7 +1,7 @@
 use Rattle.std.proofs.Common.{◌≡◌, rules}
 use Rattle.std.specs.Prelude.{string_bytes}
 use Rattle.vc_daut.specs.Canonical.{automaton_text}
-use Rattle.vc_reader.specs.Texts.{weighed}
+use Rattle.vc_ring.specs.Weighed.{weighed}
 use Rattle.vc_top.proofs.Printed.{automaton_printed}
 use Rattle.vc_top.proofs.automata.text_of.Goals as goal
 

@@ -1,6 +1,6 @@
 use Rattle.std.proofs.Common.{◌≡◌, ◌++◌, length}
-use Rattle.vc_lines.specs.Labels.{unescaped}
-use Rattle.vc_reader.proofs.label.unescape.Given as goal
+use Rattle.vc_text.specs.Escapes.{unescaped}
+use Rattle.vc_text.proofs.escapes.unescape.Given as goal
 
 abbrev pub invariant-loop-rest : goal.invariant-loop-rest
 invariant-loop-rest l = l.into.items ++ unescaped l.rest ≡ unescaped l.text

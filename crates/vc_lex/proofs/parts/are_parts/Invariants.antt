@@ -1,7 +1,7 @@
 use Rattle.std.proofs.Common.{◌≡◌, length, map}
-use Rattle.vc_lines.specs.Grammar.{are_parts}
-use Rattle.vc_lines.specs.Views.{seen}
-use Rattle.vc_lines.proofs.line.are_parts.Given as goal
+use Rattle.vc_lex.specs.Parts.{are_parts}
+use Rattle.vc_lex.specs.Views.{seen}
+use Rattle.vc_lex.proofs.parts.are_parts.Given as goal
 
 abbrev pub invariant-loop-rest : goal.invariant-loop-rest
 invariant-loop-rest l = are_parts (map seen l.rest) ≡ are_parts (map seen l.label)
