@@ -1,0 +1,6 @@
+//! Trees of weighted expressions.
+#![tactic(auto)]
+
+mod tree;
+
+pub use tree::Tree;
