@@ -4,8 +4,6 @@
 mod laws;
 mod letters;
 mod nullable;
-#[cfg(test)]
-mod tests;
 mod words;
 
 pub use laws::letters_have_one_letter;

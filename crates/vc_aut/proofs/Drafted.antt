@@ -107,7 +107,7 @@ weights-in_range {B} {V} R parts sets n (e ∷ es) h =
     (weights-in_range R parts sets n es (All-tail (IsMove R sets n) (entry_transition parts e) (map (entry_transition parts) es) h))
 
 module _ {V : Type 0} (R : WeightSet V) (same : V → V → Bool) (tells : IsEqualityTest same) where
-  not_zero : (w : V) → not (same w R.zero) ≡ true → w ≢ R.zero
+  pub not_zero : (w : V) → not (same w R.zero) ≡ true → w ≢ R.zero
   not_zero w h e = let z : same w R.zero ≡ true = (tells w R.zero).1 e in cc
 
   -- what the builder leaves is an automaton

@@ -13,3 +13,7 @@ pub mod Merged
 pub mod Merging
 pub mod Sorted
 pub mod Summed
+pub mod Ascending
+pub mod Blocks
+pub mod Relabelled
+pub mod WiderSets

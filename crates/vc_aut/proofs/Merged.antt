@@ -48,12 +48,12 @@ module _ {V : Type 0} (order : IsTotalOrder (triple_order {V = V})) where
     insert_past : (v : Transition V) (ts : List (Transition V)) (u : Transition V) → triple_order u v ≡ Greater → insert_transition R (v ∷ ts) u ≡ v ∷ insert_transition R ts u
     insert_past v ts u q = ap (λ o. match_ordering o (u ∷ v ∷ ts) (record v { weight = R.plus v.weight u.weight } ∷ ts) (v ∷ insert_transition R ts u)) q
 
-    all_past : (v : Transition V) (ts us : List (Transition V)) → ((u : Transition V) → In u us → triple_order u v ≡ Greater) → insert_all R (v ∷ ts) us ≡ v ∷ insert_all R ts us
+    pub all_past : (v : Transition V) (ts us : List (Transition V)) → ((u : Transition V) → In u us → triple_order u v ≡ Greater) → insert_all R (v ∷ ts) us ≡ v ∷ insert_all R ts us
     all_past v ts [] k = refl
     all_past v ts (u ∷ us) k =
         ap (λ l. insert_all R l us) (insert_past v ts u (k u (inl refl))) ∙ all_past v (insert_transition R ts u) us (λ x i. k x (inr i))
 
-    additions_past : (v : Transition V) (ts us : List (Transition V)) → ((u : Transition V) → In u us → triple_order u v ≡ Greater) → additions R (v ∷ ts) us ≡ additions R ts us
+    pub additions_past : (v : Transition V) (ts us : List (Transition V)) → ((u : Transition V) → In u us → triple_order u v ≡ Greater) → additions R (v ∷ ts) us ≡ additions R ts us
     additions_past v ts [] k = refl
     additions_past v ts (u ∷ us) k =
         ap (λ o. addition_to (cond (is_eq o) (Some v.weight) (standing ts u)) u.weight ++ additions R (insert_transition R (v ∷ ts) u) us) (k u (inl refl))

@@ -22,11 +22,11 @@ module _ {V : Type 0} where
   abbrev ComeFrom : ℕ → List (Transition V) → Type 0
   ComeFrom s ts = AllByRecursion (λ u. s ≤ u.from) ts
 
-  later : (s r : ℕ) (ts : List (Transition V)) → s ≤ r → ComeFrom r ts → ComeFrom s ts
+  pub later : (s r : ℕ) (ts : List (Transition V)) → s ≤ r → ComeFrom r ts → ComeFrom s ts
   later s r [] h k = tt
   later s r (t ∷ ts) h k = (omega (arith, k.0), later s r ts h k.1)
 
-  from_order : (t : Transition V) (ts : List (Transition V)) → AllByRecursion (λ u. triple_order t u ≡ Less) ts → ComeFrom t.from ts
+  pub from_order : (t : Transition V) (ts : List (Transition V)) → AllByRecursion (λ u. triple_order t u ≡ Less) ts → ComeFrom t.from ts
   from_order t [] h = tt
   from_order t (u ∷ us) h = (source_rises t u h.0, from_order t us h.1)
 

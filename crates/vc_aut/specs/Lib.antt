@@ -8,3 +8,4 @@ pub mod Sums
 pub mod EmptyLabels
 pub mod Additions
 pub mod Runs
+pub mod Wider

@@ -1,7 +1,10 @@
 -- What the fields of an automaton stand for.
-use Rattle.std.specs.Prelude.{◌≡◌, nat_lt, ℕ, ◌≤◌, ◌+◌, List, length, filter, slice_index_or}
+use Rattle.std.specs.Prelude.{◌≡◌, ◌≢◌, nat_lt, ℕ, ◌<◌, ◌≤◌, ◌+◌, ◌-◌, All, List, length, filter, slice_index_or}
+use Rattle.std.specs.declared.cmp.Ordering.TheVariants.{Less}
 use Rattle.vc_aut.specs.declared.transition.Transition.{Transition as Stored}
+use Rattle.vc_aut.specs.Order.{triple_order, AreInOrder}
 use Rattle.vc_model.specs.Automata.{Automaton, Transition}
+use Rattle.vc_model.specs.WeightSet.{WeightSet}
 use Rattle.vc_model.specs.Words.{Word}
 
 -- the transition that a stored one stands for, where the parts of a label are its word
@@ -24,3 +27,15 @@ pub record AreStarts {V : Type 0} (ts : List (Transition V)) (n : ℕ) (starts :
 -- the transition that an entry of a map by source, label and target stands for
 abbrev pub entry_transition : {B V : Type 0} → (B → Word) → (ℕ × B × ℕ) × V → Transition V
 entry_transition parts e = record { from = e.0.0; label = parts e.0.1; to = e.0.2; weight = e.1 }
+
+-- of some items that stand for transitions, the one at a place has another weight than zero, and comes after the one before it
+pub record GoesOn {X V : Type 0} (R : WeightSet V) (of : X → Transition V) (items : List X) (at : ℕ) : Type 0 where
+  pub weight : (d : X) → (of (slice_index_or items at d)).weight ≢ R.zero
+  pub order : (d : X) → 0 < at → triple_order (of (slice_index_or items (at - 1) d)) (of (slice_index_or items at d)) ≡ Less
+
+-- transitions that are the sum of themselves, with their starts for n states
+pub record AreSummed {V : Type 0} (R : WeightSet V) (ts : List (Transition V)) (n : ℕ) (places : List ℕ) : Type 0 where
+  pub order : AreInOrder ts
+  pub weights : All (λ t. t.weight ≢ R.zero) ts
+  pub few : length ts ≤ 4000000
+  pub starts : AreStarts ts n places

@@ -1,5 +1,5 @@
 use crate::gather::gather;
-use crate::starts::starts;
+use crate::starts::{starts, starts_of_sum};
 use crate::transition::Transition;
 use std::alloc::{AllocError, Global};
 use std::marker::Model;
@@ -71,7 +71,11 @@ impl<L: LabelSet, S: Semiring> Automaton<L, S> {
     /// The automaton of these weights of states, and of the sum of the transitions, which come in
     /// any order: weights of equal triples are added up in the order of the list, and zero sums
     /// are dropped. `Overflow` names an addition of them that does not fit, and `Limit` comes where
-    /// more than 4,000,000 triples are different. Transitions in order are not moved by a sort.
+    /// more than 4,000,000 triples are different.
+    ///
+    /// Where each transition comes before the next, by source, then by label and then by target,
+    /// and none has the weight zero, the list becomes that of the automaton: it is gone through
+    /// once, and nothing is moved.
     pub fn from_transitions(
         alloc: Global,
         labels: L,
@@ -88,6 +92,16 @@ impl<L: LabelSet, S: Semiring> Automaton<L, S> {
         ensures answer { IsSumAnswer S.set (map (transition_of L.parts) transitions.items) result }
     {
         words_are_ordered();
+        let states = initial_weights.len();
+        if let Some(starts) = starts_of_sum(alloc, transitions.as_slice(), states)? {
+            return Ok(Automaton {
+                labels,
+                initial_weights,
+                final_weights,
+                transitions,
+                starts,
+            });
+        }
         let transitions = gather(alloc, transitions)?;
         let Ok(aut) = Automaton::new(alloc, labels, initial_weights, final_weights, transitions)
         else {

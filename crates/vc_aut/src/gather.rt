@@ -32,7 +32,10 @@ pub(crate) fn gather<L: LabelSet, S: Semiring>(
 }
 
 /// How two transitions compare: by source, then by label, and then by target.
-fn order<L: LabelSet, S: Semiring>(left: &Transition<L, S>, right: &Transition<L, S>) -> Ordering
+pub(crate) fn order<L: LabelSet, S: Semiring>(
+    left: &Transition<L, S>,
+    right: &Transition<L, S>,
+) -> Ordering
     ensures { result ≡ triple_order (transition_of L.parts left.now) (transition_of L.parts right.now) }
 {
     left.from

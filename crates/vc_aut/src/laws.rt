@@ -1,13 +1,20 @@
-ghost use Rattle.std.specs.Prelude.{◌≡◌, ◌↔◌, ◌⊎◌, ◌<◌, ◌≤◌, ◌==◌, ℕ, Bool, List, [], length, map, Some, if◌then◌else◌};
+ghost use Rattle.std.specs.Prelude.{◌≡◌, ◌↔◌, ◌⊎◌, ◌<◌, ◌≤◌, ◌==◌, ◌++◌, nat_lt, ℕ, Bool, All, List, [], filter, length, map, Some, if◌then◌else◌};
+ghost use Rattle.std.specs.List.{flat_map};
+ghost use Rattle.std.specs.List.Sorted.{IsStrictlySortedBy};
+ghost use Rattle.std.specs.Ordering.{is_gt, is_lt};
 ghost use Rattle.vc_aut.specs.Drafts.{Draft, IsDraft, with_final, with_initial, with_state, without_zeros};
-ghost use Rattle.vc_aut.specs.Order.{AreInOrder};
+ghost use Rattle.vc_aut.specs.Order.{AreInOrder, move_order, moves_from};
 ghost use Rattle.vc_aut.specs.Sums.{insert_all, insert_transition, standing};
 ghost use Rattle.vc_aut.specs.Validity.{IsLabelled, IsMove};
+ghost use Rattle.vc_aut.specs.Wider.{AreWithin};
+ghost use Rattle.vc_label.specs.Order.{word_order};
+ghost use Rattle.vc_label.specs.Sets.{IsOverSets};
+ghost use Rattle.vc_label.specs.declared.tape_set.TapeSet.{TapeSet};
 ghost use Rattle.vc_model.specs.Automata.{IsAutomaton, IsProper, Transition, final_weight, initial_weight, triple};
 ghost use Rattle.vc_model.specs.Gathered.{IsGathered, same_triple, weight_at};
-ghost use Rattle.vc_model.specs.Lists.{In, IsEqualityTest};
+ghost use Rattle.vc_model.specs.Lists.{In, IsEqualityTest, below};
 ghost use Rattle.vc_model.specs.WeightSet.{WeightSet, SemiringLaws};
-ghost use Rattle.vc_model.specs.Words.{Word};
+ghost use Rattle.vc_model.specs.Words.{Word, same_word};
 
 use crate::automaton::Automaton;
 use crate::builder::Builder;
@@ -102,3 +109,32 @@ pub fn states_are_added<V>()
     ensures state_final { (R : WeightSet V) (d : Draft V) (p : ℕ)
         → final_weight R (with_state R d).automaton p ≡ final_weight R d.automaton p }
 {}
+
+/// What the order of an automaton's transitions says of them: those of a state stand together,
+/// behind those of the states before it, so that state by state they are all transitions. Those of
+/// a state are in the order of their labels and then of their targets, and among them those with a
+/// label stand together.
+pub fn transitions_are_in_order<V>()
+    ensures states { (ts : List (Transition V)) (n : ℕ) → AreInOrder ts → All (λ t. t.from < n) ts
+        → flat_map (moves_from ts) (below n) ≡ ts }
+    ensures state { (ts : List (Transition V)) (s : ℕ) → AreInOrder ts
+        → filter (λ t. nat_lt t.from s) ts ++ (moves_from ts s ++ filter (λ t. nat_lt s t.from) ts)
+        ≡ ts }
+    ensures moves { (ts : List (Transition V)) (s : ℕ) → AreInOrder ts
+        → IsStrictlySortedBy move_order (moves_from ts s) }
+    ensures label { (ts : List (Transition V)) (w : Word) → IsStrictlySortedBy move_order ts
+        → filter (λ t. is_lt (word_order t.label w)) ts
+        ++ (filter (λ t. same_word w t.label) ts ++ filter (λ t. is_gt (word_order t.label w)) ts)
+        ≡ ts }
+{
+    words_are_ordered();
+}
+
+/// The labels of an automaton are labels over each list of sets that has, tape by tape, all that
+/// its own sets have, as `with_labels` wants it: words where letters were, or a larger alphabet.
+pub fn labels_are_over_wider_sets<L: LabelSet, S: Semiring>(aut: &Automaton<L, S>)
+    ensures { (sets : List TapeSet) → AreWithin aut.now.sets sets
+        → All (λ t. IsOverSets sets t.label) aut.now.automaton.transitions }
+{
+    automata_are_valid(aut);
+}

@@ -9,15 +9,13 @@ mod moves;
 mod proper;
 mod starts;
 mod transition;
+mod with_labels;
 
 pub use automaton::Automaton;
 pub use builder::Builder;
 pub use laws::{
-    automata_are_valid, drafts_are_sums, drafts_are_valid, proper_automata_are_proper,
-    states_are_added, transitions_are_added,
+    automata_are_valid, drafts_are_sums, drafts_are_valid, labels_are_over_wider_sets,
+    proper_automata_are_proper, states_are_added, transitions_are_added, transitions_are_in_order,
 };
 pub use proper::Proper;
 pub use transition::Transition;
-
-#[cfg(test)]
-mod tests;

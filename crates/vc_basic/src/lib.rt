@@ -11,6 +11,3 @@ pub use residues::F2;
 pub use tropical::{Nmin, NminValue};
 pub use truths::B;
 pub use wholes::Z;
-
-#[cfg(test)]
-mod tests;

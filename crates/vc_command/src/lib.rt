@@ -9,6 +9,3 @@ mod request;
 
 pub use law::lines_are_spelled;
 pub use request::{Request, RequestFault, request_of};
-
-#[cfg(test)]
-mod tests;

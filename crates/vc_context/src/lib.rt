@@ -8,8 +8,6 @@ mod letters;
 mod pieces;
 mod reader;
 mod tapes;
-#[cfg(test)]
-mod tests;
 mod writer;
 
 pub use context::{AnyContext, AnyLabels, ContextFault, Weights};

@@ -13,6 +13,3 @@ pub use vc_reader::{
     refusals_are_additions, texts_spell_one_automaton,
 };
 pub use write::write_daut;
-
-#[cfg(test)]
-mod tests;

@@ -7,6 +7,3 @@ mod rows;
 
 pub use evaluator::Evaluator;
 pub use laws::letters_are_labels;
-
-#[cfg(test)]
-mod tests;

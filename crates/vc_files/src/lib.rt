@@ -7,8 +7,6 @@ mod mem_files;
 mod mem_sink;
 mod real;
 mod sink;
-#[cfg(test)]
-mod tests;
 
 pub use files::{Files, ReadFault};
 pub use laws::{faults_of_calls, names_have_one_file, writes_in_turn};

@@ -78,7 +78,7 @@ fn read_more<R: Read>(reader: &mut R, most: u64, bytes: &mut Vec<u8>) -> io::Res
 /// The bytes that a reader gives, up to the first `most`.
 ///
 /// No byte after these is read. A reader that fails in the middle gives no bytes, so what comes is never a shorter file.
-pub(crate) fn take_bytes<R: Read>(alloc: Global, reader: &mut R, most: u64) -> io::Result<Vec<u8>>
+fn take_bytes<R: Read>(alloc: Global, reader: &mut R, most: u64) -> io::Result<Vec<u8>>
     ensures bound { IfOk result (λ got. length got.items ≤ most) }
     ensures front { IfOk result (λ got. Consumes (R.remaining reader.old) (R.remaining reader.new) got.items) }
     ensures whole { IfOk result (λ got. length got.items < most → IsAtEnd (R.remaining reader.new)) }

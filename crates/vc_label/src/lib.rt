@@ -6,8 +6,6 @@ mod extend;
 mod label_set;
 mod laws;
 mod tape_set;
-#[cfg(test)]
-mod tests;
 mod word;
 mod word_buf;
 

@@ -15,6 +15,3 @@ pub use lexer::Lexer;
 pub use parts::{are_parts, class_body, is_class, is_part};
 pub use token::{BadByte, Mode, Token, TokenKind};
 pub use vc_text::{LetterAt, letter_at};
-
-#[cfg(test)]
-mod tests;

@@ -14,6 +14,3 @@ pub use head::{Head, head_of};
 pub use law::context_lines_have_one_text;
 pub use line::{Entry, Line, cut_entry, entry_of, line_of, name_of};
 pub use lines::cut_line;
-
-#[cfg(test)]
-mod tests;

@@ -10,6 +10,3 @@ pub use checked::{checked_add, checked_mul, checked_sub, divide, product, scaled
 pub use decimals::{DecimalFault, read_decimal};
 pub use divisors::gcd;
 pub use numerals::{NumeralFault, read_magnitude, read_natural, read_whole};
-
-#[cfg(test)]
-mod tests;

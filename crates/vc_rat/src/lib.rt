@@ -11,6 +11,3 @@ mod texts;
 
 pub use fraction::Fraction;
 pub use rationals::Q;
-
-#[cfg(test)]
-mod tests;

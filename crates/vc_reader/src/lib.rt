@@ -15,6 +15,3 @@ pub use law::{
     texts_spell_one_automaton,
 };
 pub use read::read_daut;
-
-#[cfg(test)]
-mod tests;

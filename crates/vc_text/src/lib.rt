@@ -7,8 +7,6 @@ mod escapes;
 mod growing;
 mod laws;
 mod letters;
-#[cfg(test)]
-mod tests;
 
 pub use blanks::{after_blanks, is_blank};
 pub use classes::class_letters;

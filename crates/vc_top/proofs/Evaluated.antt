@@ -1,12 +1,12 @@
 -- The evaluation of a word answers what its steps say.
-use Rattle.std.proofs.Common.{◌≡◌, List, [], ◌∷◌, ◌++◌, ℕ, All, Bool, true, false, IsTrue, Option, None, Some, Ok, Err, refl, sym, ap, ◌∙◌, inl, inr, subst}
-use Rattle.std.specs.Prelude.{◌↔◌, String, string_bytes}
+use Rattle.std.proofs.Common.{◌≡◌, List, [], ◌∷◌, ◌++◌, ℕ, suc, length, Bool, true, false, Option, None, Some, Ok, Err, refl, sym, ap, ◌∙◌, inl, inr, subst}
+use Rattle.std.specs.Prelude.{String, string_bytes}
 use Rattle.std.specs.Global.{Global}
 use Rattle.vc_aut.specs.Labelled.{Labelled}
 use Rattle.vc_eval.specs.Forward.{forward_steps}
 use Rattle.vc_files.specs.Files.{Bytes}
-use Rattle.vc_label.specs.Alphabets.{has_letter}
-use Rattle.vc_label.specs.declared.alphabet.Alphabet.{Alphabet}
+use Rattle.vc_exprio.specs.Words.{IsOverAlphabets}
+use Rattle.vc_label.specs.declared.tape_set.TapeSet.{TapeSet}
 use Rattle.vc_model.specs.Automata.{Automaton, coefficient}
 use Rattle.vc_model.specs.Lists.{In}
 use Rattle.vc_model.specs.WeightSet.{WeightSet}
@@ -15,11 +15,11 @@ use Rattle.vc_ring.specs.Steps.{AllFit, fits}
 use Rattle.vc_ring.specs.declared.faults.MakeFault.{MakeFault}
 use Rattle.vc_ring.specs.declared.faults.Overflow.{Overflow}
 use Rattle.vc_ring.specs.Texts.{WeightTexts}
-use Rattle.vc_top.specs.Evaluations.{AnswersEvalOver, AnswersSteps, AnswersWord, AreLettersOf, HasUnfitStep, ReadsWord, SpellsWord}
-use Rattle.vc_top.specs.Outcomes.{Answer, Outcome, OrMemory}
-use Rattle.vc_top.specs.Reasons.{Reason, in_word, no_label}
+use Rattle.vc_top.specs.Evaluations.{AnswersEvalOver, AnswersSteps, AnswersWord, HasUnfitStep, ReadsWord, are_letters}
+use Rattle.vc_top.specs.Outcomes.{Answer, Outcome, OrMemory, Then}
+use Rattle.vc_top.specs.Reasons.{Reason, contexts}
 use Rattle.vc_top.specs.Refused.{UnlessCause}
-use Rattle.vc_top.proofs.Outcomes.{wider}
+use Rattle.vc_top.proofs.Outcomes.{provided, then_given, then_refused, unprovided, wider}
 
 no_unfit : {V : Type 0} (R : WeightSet V) (steps : List (Overflow V)) → AllFit R steps → ¬ HasUnfitStep R steps
 no_unfit R [] a u = absurd u.1
@@ -44,24 +44,29 @@ cause_given {V} cause R a e p = wider R (UnlessCause cause R) a a (λ m. m) p (�
     none : (o : Option (MakeFault V)) → o ≡ None → (f : MakeFault V) → ¬ (o ≡ Some f)
     none o h f k = cc (sym h ∙ k)
 
--- the word of a text, where each letter is in the alphabet
-pub word_read : (alphabet : Alphabet) (text w : List ℕ) (r : Bool) → SpellsWord text w → IsTrue r ↔ All (λ x. has_letter alphabet x ≡ true) w → r ≡ true → ReadsWord alphabet text (Ok w)
-word_read alphabet text w r s h e = inr (w, s, inr (λ n. n (h.0 e), refl))
-
-pub foreign_word : (alphabet : Alphabet) (text w : List ℕ) (r : Bool) → SpellsWord text w → IsTrue r ↔ All (λ x. has_letter alphabet x ≡ true) w → r ≡ false → ReadsWord alphabet text (Err (no_label in_word))
-foreign_word alphabet text w r s h e = inr (w, s, inl (λ o. not_false (subst IsTrue e (h.1 o)), refl))
-  where
-    not_false : IsTrue false → ⊥
-    not_false h = cc h
+-- a word over the labels has their tapes
+pub over_tapes : (sets : List TapeSet) (w : Word) → IsOverAlphabets sets w → length w ≡ length sets
+over_tapes [] [] o = refl
+over_tapes [] (a ∷ w) o = absurd o
+over_tapes (s ∷ sets) [] o = absurd o
+over_tapes (s ∷ sets) (a ∷ w) o = ap suc (over_tapes sets w o.1)
 
 module _ {V : Type 0} (T : WeightTexts V) where
   -- the text of a coefficient
-  pub steps_answered : (A : Automaton V) (w : List ℕ) (v : V) (text : String Global) → v ≡ coefficient T.set A (w ∷ []) → AllFit T.set (forward_steps T.set A (w ∷ []))
+  pub steps_answered : (A : Automaton V) (w : Word) (v : V) (text : String Global) → v ≡ coefficient T.set A w → AllFit T.set (forward_steps T.set A w)
       → string_bytes text ≡ T.canonical v ++ 10 ∷ [] → OrMemory (AnswersSteps T A w) (Ok (string_bytes text))
-  steps_answered A w v text e f k = inr (inr (no_unfit T.set (forward_steps T.set A (w ∷ [])) f, ap Ok (k ∙ ap (λ x. T.canonical x ++ 10 ∷ []) e)))
+  steps_answered A w v text e f k = inr (inr (no_unfit T.set (forward_steps T.set A w) f, ap Ok (k ∙ ap (λ x. T.canonical x ++ 10 ∷ []) e)))
 
-  pub word_answered : (a : Labelled V) (alphabet : Alphabet) (text w : List ℕ) (b : Answer) → AreLettersOf a.sets alphabet → ReadsWord alphabet text (Ok w) → OrMemory (AnswersWord T a.automaton w) b → OrMemory (AnswersEvalOver T text a) b
-  word_answered a alphabet text w b l r p = wider (AnswersWord T a.automaton w) (AnswersEvalOver T text a) b b (λ m. m) p (λ q. inr (alphabet, l, inr (w, r, q)))
+  -- the answer for the word of a text
+  pub word_answered : (a : Labelled V) (text : List ℕ) (w : Word) (b : Answer) → are_letters a.sets ≡ true → OrMemory (ReadsWord a.sets text) (Ok w) → OrMemory (AnswersWord T a.automaton w) b → OrMemory (AnswersEvalOver T text a) b
+  word_answered a text w b l r p =
+      provided (are_letters a.sets) contexts (Then (ReadsWord a.sets text) (AnswersWord T a.automaton)) b (sym l) (then_given (ReadsWord a.sets text) (AnswersWord T a.automaton) w b r p)
 
-  pub no_word : (a : Labelled V) (alphabet : Alphabet) (text : List ℕ) (reason : Reason) → AreLettersOf a.sets alphabet → ReadsWord alphabet text (Err reason) → OrMemory (AnswersEvalOver T text a) (Err reason)
-  no_word a alphabet text reason l r = inr (inr (alphabet, l, inl (reason, r, refl)))
+  -- the text has no word over the labels
+  pub no_word : (a : Labelled V) (text : List ℕ) (reason : Reason) → are_letters a.sets ≡ true → OrMemory (ReadsWord a.sets text) (Err reason) → OrMemory (AnswersEvalOver T text a) (Err reason)
+  no_word a text reason l r =
+      provided (are_letters a.sets) contexts (Then (ReadsWord a.sets text) (AnswersWord T a.automaton)) (Err reason) (sym l) (then_refused (ReadsWord a.sets text) (AnswersWord T a.automaton) reason r)
+
+  -- the labels are no letters
+  pub no_letters : (a : Labelled V) (text : List ℕ) → are_letters a.sets ≡ false → OrMemory (AnswersEvalOver T text a) (Err contexts)
+  no_letters a text l = unprovided (are_letters a.sets) contexts (Then (ReadsWord a.sets text) (AnswersWord T a.automaton)) (sym l)

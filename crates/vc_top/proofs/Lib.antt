@@ -2,7 +2,6 @@ pub mod Outcomes
 pub mod Headed
 pub mod LinesRead
 pub mod Evaluated
-pub mod PlainWords
 pub mod Printed
 pub mod Failed
 pub mod Planned

@@ -1,9 +1,6 @@
-ghost use Rattle.std.specs.Prelude.{◌≡◌, ◌≤◌, ◌++◌, ◌∷◌, [], All, IfErr, IfOk, IsTrue, string_bytes, true};
-ghost use Rattle.vc_label.specs.Alphabets.{has_letter};
-ghost use Rattle.vc_label.specs.declared.alphabet.Alphabet.{Alphabet};
-ghost use Rattle.vc_label.specs.Letters.{are_letters};
-ghost use Rattle.vc_model.specs.Letters.{HasLetters};
-ghost use Rattle.vc_top.specs.Evaluations.{AnswersEval, AnswersEvalOver, AnswersSteps, AnswersWord, AreLettersOf, IsAlphabetOf};
+ghost use Rattle.std.specs.Prelude.{◌≡◌, ◌++◌, ◌∷◌, [], IfOk, IsTrue, length, string_bytes, true};
+ghost use Rattle.vc_label.specs.Borrowed.{word_of};
+ghost use Rattle.vc_top.specs.Evaluations.{AnswersEval, AnswersEvalOver, AnswersSteps, AnswersWord, are_letters as has_letters};
 ghost use Rattle.vc_top.specs.Outcomes.{OrMemory};
 ghost use Rattle.vc_top.specs.Views.{answer_of, input_of, labelled_of};
 
@@ -13,7 +10,7 @@ use crate::word::word_over;
 use std::alloc::{AllocError, Global};
 use vc_aut::Automaton;
 use vc_eval::{Evaluator, letters_are_labels};
-use vc_label::{Alphabet, LabelSet, TapeKind, TapeSet, Word};
+use vc_label::{LabelSet, TapeKind, Word};
 use vc_ring::{Semiring, Weighed};
 
 /// The text of a weight, and a line feed.
@@ -31,12 +28,12 @@ fn line_of<S: Semiring>(alloc: Global, weight: S::Value) -> Result<String, Alloc
 fn evaluate<'w, L: LabelSet, S: Semiring>(
     alloc: Global,
     mut evaluator: Evaluator<'_, L, S>,
-    word: &[u8],
+    word: Word<'_>,
 ) -> Result<String, Refusal<'w>>
-    requires { IsTrue (are_letters word.now) }
-    ensures { OrMemory (AnswersSteps ⟦<S as Weighed>⟧.texts evaluator.entry.automaton word.now) (answer_of result) }
+    requires { length (word_of word) ≡ 1 }
+    ensures { OrMemory (AnswersSteps ⟦<S as Weighed>⟧.texts evaluator.entry.automaton (word_of word.entry)) (answer_of result) }
 {
-    let coefficient = match evaluator.eval(Word::one(word)) {
+    let coefficient = match evaluator.eval(word) {
         Ok(coefficient) => coefficient,
         Err(_) => return Err(Refusal::Overflow),
     };
@@ -50,11 +47,11 @@ fn evaluate<'w, L: LabelSet, S: Semiring>(
 fn answer_word<'w, L: LabelSet, S: Semiring>(
     alloc: Global,
     automaton: &Automaton<L, S>,
-    word: &[u8],
+    word: Word<'_>,
 ) -> Result<String, Refusal<'w>>
-    requires letters { (alphabet : Alphabet) × AreLettersOf automaton.now.sets alphabet }
-    requires word { IsTrue (are_letters word.now) }
-    ensures { OrMemory (AnswersWord ⟦<S as Weighed>⟧.texts automaton.now.automaton word.now) (answer_of result) }
+    requires letters { has_letters automaton.now.sets ≡ true }
+    requires word { length (word_of word) ≡ 1 }
+    ensures { OrMemory (AnswersWord ⟦<S as Weighed>⟧.texts automaton.now.automaton (word_of word.entry)) (answer_of result) }
 {
     letters_are_labels(automaton);
     match Evaluator::new(alloc, automaton) {
@@ -63,35 +60,26 @@ fn answer_word<'w, L: LabelSet, S: Semiring>(
     }
 }
 
-/// The alphabet of labels that are letters; none where they are no letters.
-fn alphabet_of<L: LabelSet>(labels: &L) -> Option<Alphabet>
-    ensures { IsAlphabetOf (L.sets labels.now) result }
+/// Whether labels are letters.
+fn are_letters<L: LabelSet>(labels: &L) -> bool
+    ensures { result ≡ has_letters (L.sets labels.now) }
 {
-    if labels.tapes() != 1 {
-        return None;
-    }
-    match labels.tape(0) {
-        TapeSet {
-            kind: TapeKind::Letters,
-            alphabet,
-        } => Some(alphabet),
-        _ => None,
-    }
+    labels.tapes() == 1 && matches!(labels.tape(0).kind, TapeKind::Letters)
 }
 
 /// The coefficient of an automaton at the word of a text, whose labels are to be letters.
 fn eval_over<'w, L: LabelSet, S: Semiring>(
     alloc: Global,
     automaton: &Automaton<L, S>,
-    text: &[u8],
+    text: &str,
 ) -> Result<String, Refusal<'w>>
     ensures { OrMemory (AnswersEvalOver ⟦<S as Weighed>⟧.texts text.now automaton.now) (answer_of result) }
 {
-    let Some(alphabet) = alphabet_of(automaton.labels()) else {
+    if !are_letters(automaton.labels()) {
         return Err(Refusal::Contexts);
-    };
-    match word_over(alphabet, text) {
-        Ok(word) => answer_word(alloc, automaton, word),
+    }
+    match word_over(alloc, automaton.labels(), text) {
+        Ok(word) => answer_word(alloc, automaton, word.word()),
         Err(refusal) => Err(refusal),
     }
 }
@@ -100,7 +88,7 @@ fn eval_over<'w, L: LabelSet, S: Semiring>(
 fn eval_any<'w, S: Semiring>(
     alloc: Global,
     automaton: &AnyOf<S>,
-    text: &[u8],
+    text: &str,
 ) -> Result<String, Refusal<'w>>
     ensures { OrMemory (AnswersEvalOver ⟦<S as Weighed>⟧.texts text.now (labelled_of automaton.now)) (answer_of result) }
 {
@@ -113,7 +101,7 @@ fn eval_any<'w, S: Semiring>(
 }
 
 /// `eval FILE WORD`: the coefficient at the word.
-pub(crate) fn eval<'w>(alloc: Global, input: &AnyInput, text: &[u8]) -> Result<String, Refusal<'w>>
+pub(crate) fn eval<'w>(alloc: Global, input: &AnyInput, text: &str) -> Result<String, Refusal<'w>>
     ensures { OrMemory (AnswersEval text.now (input_of input.now)) (answer_of result) }
 {
     match input {

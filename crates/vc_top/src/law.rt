@@ -10,6 +10,7 @@ use vc_context::contexts_have_texts;
 use vc_daut::{
     context_lines_have_one_text, readings_exclude_each_other, texts_spell_one_automaton,
 };
+use vc_exprio::texts_spell_one_word;
 use vc_files::names_have_one_file;
 use vc_rat::Fraction;
 
@@ -24,6 +25,7 @@ pub fn answers_are_determined()
 {
     names_have_one_file();
     contexts_have_texts();
+    texts_spell_one_word();
     context_lines_have_one_text();
     texts_spell_one_automaton::<bool>();
     texts_spell_one_automaton::<i128>();

@@ -16,6 +16,3 @@ mod word;
 pub use law::answers_are_determined;
 pub use status::Status;
 pub use top::{refuse, run};
-
-#[cfg(test)]
-mod tests;

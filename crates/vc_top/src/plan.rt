@@ -72,6 +72,6 @@ pub(crate) fn on_file<'w>(
 {
     match command {
         FileCommand::Cat => cat(alloc, input),
-        FileCommand::Eval { word } => eval(alloc, input, word.as_bytes()),
+        FileCommand::Eval { word } => eval(alloc, input, word),
     }
 }

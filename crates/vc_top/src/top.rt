@@ -19,6 +19,7 @@ use crate::status::Status;
 use std::alloc::Global;
 use vc_command::{Request, RequestFault, request_of};
 use vc_context::contexts_have_texts;
+use vc_exprio::texts_spell_one_word;
 use vc_files::{Files, Sink};
 
 /// The answer of a command to the file of this name.
@@ -114,6 +115,7 @@ pub fn run<F: Files, O: Sink, E: Sink>(
     ensures kept { F.held files.new ≡ F.held files.old }
 {
     contexts_have_texts();
+    texts_spell_one_word();
     match request_of(alloc, words) {
         Ok(request) => {
             let answer = answer(alloc, &request, files);

@@ -3,8 +3,6 @@
 
 mod cuts;
 mod label;
-#[cfg(test)]
-mod tests;
 mod tuple;
 
 pub use label::TupleLabel;

@@ -1,0 +1,9 @@
+//! Tests of the crates of automata.
+#![tactic(auto)]
+
+#[cfg(test)]
+mod automata;
+#[cfg(test)]
+mod coefficients;
+#[cfg(test)]
+mod labels;

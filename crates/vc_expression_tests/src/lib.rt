@@ -1,0 +1,7 @@
+//! Tests of the crates of expressions and of their texts.
+#![tactic(auto)]
+
+#[cfg(test)]
+mod store;
+#[cfg(test)]
+mod words;
