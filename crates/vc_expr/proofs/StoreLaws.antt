@@ -9,7 +9,7 @@ use Rattle.vc_terms.specs.Forms.{Everywhere, EverywhereIn, IsBody, IsBuilt, IsBu
 use Rattle.vc_expr.specs.Rows.{tree_at, AreBelow}
 use Rattle.vc_expr.specs.Names.{Has, tree_of, trees_of}
 use Rattle.vc_expr.specs.Nodes.{places}
-use Rattle.vc_expr.specs.Facts.{IsStore, IsStoredRoot}
+use Rattle.vc_expr.specs.Facts.{HasRootValues, IsStore, IsStoredRoot}
 use Rattle.vc_expr.specs.declared.expr.Expr.{Expr}
 use Rattle.vc_expr.proofs.RowLaws.{everywhere_at, one_place}
 
@@ -102,6 +102,10 @@ module _ {V : Type 0} (R : WeightSet V) (equal : V → V → Bool) (s : List (Te
   -- the trees of a store are as the operations build them
   pub built_at : (e : Expr) → IsStore R equal s → Has s e → IsBuilt R equal (tree_of s e)
   built_at e S h = everywhere_weaker (IsStoredRoot R equal) (IsBuiltRoot R equal) (λ t i. i.built) (tree_of s e) (everywhere_at (IsStoredRoot R equal) s e.at S.stored h)
+
+  -- their weights are values, and their stars are defined
+  pub values_at : (e : Expr) → IsStore R equal s → Has s e → Everywhere (HasRootValues R) (tree_of s e)
+  values_at e S h = everywhere_weaker (IsStoredRoot R equal) (HasRootValues R) (λ t i. i.values) (tree_of s e) (everywhere_at (IsStoredRoot R equal) s e.at S.stored h)
 
   pub built_all : (es : List Expr) → IsStore R equal s → All (Has s) es → EverywhereIn (IsBuiltRoot R equal) (terms_of (trees_of s es))
   built_all [] S h = tt

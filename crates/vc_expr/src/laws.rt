@@ -1,10 +1,10 @@
 //! What holds of each store, and of stores that have grown.
 ghost use Rattle.std.specs.Prelude.{◌≡◌, ◌↔◌, ℕ, IsTrue, List};
-ghost use Rattle.vc_expr.specs.Facts.{IsStore};
+ghost use Rattle.vc_expr.specs.Facts.{HasRootValues, IsStore};
 ghost use Rattle.vc_expr.specs.Names.{Has, tree_of, Grows};
 ghost use Rattle.vc_expr.specs.declared.expr.Expr.{Expr};
 ghost use Rattle.vc_terms.specs.Terms.{Term, constant_of, HasTapes, IsValid};
-ghost use Rattle.vc_terms.specs.Forms.{IsBuilt};
+ghost use Rattle.vc_terms.specs.Forms.{Everywhere, IsBuilt};
 
 use crate::store::{Exprs, stores_hold};
 use vc_label::LabelSet;
@@ -12,11 +12,12 @@ use vc_ring::Semiring;
 use vc_terms::constants_of_terms;
 
 /// What is true of each store: names are equal exactly where their trees are, each tree is as the
-/// operations build it, its constant term is a value, and each star in it is defined.
+/// operations build it, its weights and its constant term are values, and each star in it is defined.
 pub fn stores_are_valid<L: LabelSet, S: Semiring>(store: &Exprs<L, S>)
     ensures names { (a b : Expr) → Has store.now a → Has store.now b → (a ≡ b)
         ↔ (tree_of store.now a ≡ tree_of store.now b) }
     ensures built { (e : Expr) → Has store.now e → IsBuilt S.set S.Value.eq (tree_of store.now e) }
+    ensures values { (e : Expr) → Has store.now e → Everywhere (HasRootValues S.set) (tree_of store.now e) }
     ensures constant { (e : Expr) → Has store.now e
         → IsTrue (S.set.in_range (constant_of S.set (tree_of store.now e))) }
     ensures valid { (e : Expr) (tapes : ℕ) → Has store.now e

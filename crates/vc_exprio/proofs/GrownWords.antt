@@ -4,7 +4,8 @@ use Rattle.std.proofs.lemmas.List.{set-set, set-get_or, get_or-set_same, length-
 use Rattle.std.specs.Borrow.{Bor}
 use Rattle.std.specs.Prelude.{All, slice_get}
 use Rattle.std.proofs.lemmas.Option.{get_or_from_slice_get}
-use Rattle.vc_exprio.specs.WordParts.{front_letters, tapes_of}
+use Rattle.vc_exprio.specs.WordParts.{tapes_of}
+use Rattle.vc_text.specs.Escapes.{unescaped}
 use Rattle.vc_exprio.specs.Words.{IsOverAlphabets}
 use Rattle.vc_label.specs.declared.tape_set.TapeSet.{TapeSet}
 use Rattle.std.proofs.lemmas.List.Elements.{All-cons, All-head, All-tail}
@@ -45,8 +46,8 @@ grown_tape w v i a e l = subst (λ u. i < length u) (sym e) (subst (λ n. i < n)
 
 -- ---- the tapes, one by one
 
-pub part_on : (parts : List (Bor (List ℕ))) (i : ℕ) (d : Bor (List ℕ)) → i < length parts → front_letters (get_or parts i d).now ≡ get_or (tapes_of parts) i []
-part_on parts i d l = sym (get_or-map (λ p. front_letters p.now) parts i d [] l)
+pub part_on : (parts : List (Bor (List ℕ))) (i : ℕ) (d : Bor (List ℕ)) → i < length parts → unescaped (get_or parts i d).now ≡ get_or (tapes_of parts) i []
+part_on parts i d l = sym (get_or-map (λ p. unescaped p.now) parts i d [] l)
 
 -- the tapes so far, and the empty ones, with one more
 pub grown_at : (w : Word) (v u : Word) (n i : ℕ) (a : Tape) → v ≡ take i w ++ empty_word (n - i) → i < n → length w ≡ n → get_or w i [] ≡ a → u ≡ grown v i a → u ≡ take (i + 1) w ++ empty_word (n - (i + 1))
@@ -98,4 +99,4 @@ over_tapes (s ∷ sets) [] h = absurd h
 over_tapes (s ∷ sets) (a ∷ w) h = ap suc (over_tapes sets w h.1)
 
 pub too_many : (sets : List TapeSet) (parts : List (Bor (List ℕ))) (n m : ℕ) → n ≡ length parts → m ≡ length sets → n ≢ m → IsOverAlphabets sets (tapes_of parts) → ⊥
-too_many sets parts n m e f d h = d (e ∙ sym (length-map parts (λ p. front_letters p.now)) ∙ over_tapes sets (tapes_of parts) h ∙ sym f)
+too_many sets parts n m e f d h = d (e ∙ sym (length-map parts (λ p. unescaped p.now)) ∙ over_tapes sets (tapes_of parts) h ∙ sym f)

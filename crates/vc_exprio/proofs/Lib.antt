@@ -1,5 +1,15 @@
+pub mod GrammarForms
+pub mod Sound
+pub mod Complete
+pub mod FrontLaws
+pub mod PartLetters
+pub mod BuiltParts
+pub mod CanonicalTrees
+pub mod CanonicalTokens
+pub mod SpelledTrees
 pub mod Letters
 pub mod Blanks
 pub mod PartTexts
-pub mod WordLaws
+pub mod SpelledWords
 pub mod GrownWords
+pub mod PendingTexts

@@ -1,10 +1,14 @@
 -- The part that a text begins with.
-use Rattle.std.proofs.Common.{◌≡◌, ◌≢◌, ◌⊎◌, inl, inr, ℕ, Bool, true, false, ◌&&◌, ◌==◌, List, [], ◌∷◌, ◌++◌, drop, Option, Some, None, IsTrue, refl, ap, sym, ◌∙◌, subst, append_assoc}
+use Rattle.std.proofs.Common.{◌≡◌, ◌≢◌, ◌⊎◌, inl, inr, ℕ, Bool, true, false, ◌&&◌, ◌==◌, List, [], ◌∷◌, ◌++◌, drop, Option, Some, None, IsTrue, refl, ap, sym, ◌∙◌, subst, append_assoc, ◌-◌, length, take, arith}
 use Rattle.std.specs.Prelude.{if◌then◌else◌, codes, ◌||◌}
 use Rattle.std.proofs.lemmas.Bool.{eqb-true, false≢true}
 use Rattle.vc_exprio.proofs.Blanks.{skip_blanks, skip_other, blanks_before}
 use Rattle.vc_exprio.proofs.Letters.{both_true, split, IsSplit, HasNone, HasThese, letters_first, none_first}
-use Rattle.vc_exprio.specs.WordParts.{front_letters, after_letters, Found, closed, run, begins_e, part_in, part_at}
+use Rattle.std.proofs.Math.Seq.{take-append_seam}
+use Rattle.std.proofs.lemmas.List.{length-append}
+use Rattle.vc_text.specs.Escapes.{unescaped}
+use Rattle.vc_exprio.proofs.PartLetters.{letters_read}
+use Rattle.vc_exprio.specs.WordParts.{text_before, front_letters, after_letters, Found, closed, run, begins_e, part_in, part_at}
 use Rattle.vc_exprio.specs.Words.{letters_text, IsPartText, BeginsPart}
 use Rattle.vc_label.specs.Letters.{are_letters, is_letter}
 use Rattle.vc_model.specs.Words.{Tape}
@@ -12,6 +16,16 @@ use Rattle.vc_text.specs.Blanks.{after_blanks, AreBlanks, is_blank}
 use Rattle.vc_text.specs.LetterLaws.{other_is_escaped, escaped_not_plain}
 use Rattle.vc_text.specs.Letters.{is_plain, is_escaped, letter_text}
 use Rattle.std.specs.List.{list_all}
+
+-- ---- the text of letters in front of a rest
+
+letters_before : (a : Tape) (rest : List ℕ) → unescaped (text_before rest (letters_text a ++ rest)) ≡ a
+letters_before a rest =
+    let n : length (letters_text a ++ rest) - length rest ≡ length (letters_text a) = omega (arith, length-append (letters_text a) rest) in
+    ap (λ k. unescaped (take k (letters_text a ++ rest))) n ∙ ap unescaped (take-append_seam (letters_text a) rest) ∙ letters_read a
+
+text_read : (text : List ℕ) → unescaped (text_before (after_letters text) text) ≡ front_letters text
+text_read text = ap (λ s. unescaped (text_before (after_letters text) s)) (split text).is ∙ letters_before (front_letters text) (after_letters text)
 
 -- ---- a part that is found begins the text
 
@@ -25,7 +39,7 @@ pub record IsPart (text : List ℕ) (a : Tape) (rest : List ℕ) : Type 0 where
 
 abbrev IsFound : List ℕ → Option Found → Type 0
 IsFound text None = Unit {0}
-IsFound text (Some f) = IsPart text (front_letters f.letters) f.after
+IsFound text (Some f) = IsPart text (unescaped f.letters) f.after
 
 -- a part, and a text from which blanks are skipped
 with_blanks : (text part rest : List ℕ) (a : Tape) → text ≡ part ++ rest → IsPartText part a → IsTrue (are_letters a) → IsPart text a (after_blanks rest)
@@ -38,7 +52,8 @@ run_found x s [] e = tt
 run_found x s (y ∷ a) e =
     let sp = split (x ∷ s) in
     let some : front_letters (x ∷ s) ≢ [] = λ h. absurd (cc) in
-    with_blanks (x ∷ s) (letters_text (front_letters (x ∷ s))) (after_letters (x ∷ s)) (front_letters (x ∷ s)) sp.is (inr (inl (some, refl))) sp.letters
+    subst (λ b. IsPart (x ∷ s) b (after_blanks (after_letters (x ∷ s)))) (sym (text_read (x ∷ s)))
+    (with_blanks (x ∷ s) (letters_text (front_letters (x ∷ s))) (after_letters (x ∷ s)) (front_letters (x ∷ s)) sp.is (inr (inl (some, refl))) sp.letters)
 
 closed_found : (s rest : List ℕ) → after_letters s ≡ rest → IsFound (39 ∷ s) (closed s rest)
 closed_found s [] e = tt
@@ -50,8 +65,13 @@ closed_found s (x ∷ rest) e = go (x == 39) refl
     text : x ≡ 39 → 39 ∷ s ≡ (39 ∷ (letters_text (front_letters s) ++ 39 ∷ [])) ++ rest
     text q = ap (λ t. 39 ∷ t) (sp.is ∙ ap (λ t. letters_text (front_letters s) ++ t) (e ∙ ap (λ z. z ∷ rest) q) ∙ sym (append_assoc (letters_text (front_letters s)) (39 ∷ []) rest))
 
-    go : (b : Bool) → (x == 39) ≡ b → IsFound (39 ∷ s) (if b then Some (record { letters = s; after = after_blanks rest }) else None)
-    go true q = with_blanks (39 ∷ s) (39 ∷ (letters_text (front_letters s) ++ 39 ∷ [])) rest (front_letters s) (text (eqb-true x 39 q)) (inr (inr refl)) sp.letters
+    read : unescaped (text_before (x ∷ rest) s) ≡ front_letters s
+    read = ap (λ r. unescaped (text_before r s)) (sym e) ∙ text_read s
+
+    go : (b : Bool) → (x == 39) ≡ b → IsFound (39 ∷ s) (if b then Some (record { letters = text_before (x ∷ rest) s; after = after_blanks rest }) else None)
+    go true q =
+        subst (λ b. IsPart (39 ∷ s) b (after_blanks rest)) (sym read)
+        (with_blanks (39 ∷ s) (39 ∷ (letters_text (front_letters s) ++ 39 ∷ [])) rest (front_letters s) (text (eqb-true x 39 q)) (inr (inr refl)) sp.letters)
     go false q = tt
 
 empty_found : (x : ℕ) (s : List ℕ) → (x == 92 && begins_e s) ≡ true → IsPart (x ∷ s) [] (after_blanks (drop 1 s))
@@ -79,8 +99,8 @@ begun text a rest p =
     let b = blanks_before text in
     record { before = b.0; part = p.part; behind = p.behind; is = b.1 ∙ ap (λ t. b.0 ++ t) p.is; blank_before = b.2; blank_behind = p.blank_behind; spells = p.spells; letters = p.letters }
 
-pub part_sound : (text : List ℕ) (f : Found) → part_at text ≡ Some f → BeginsPart text (front_letters f.letters) f.after
-part_sound text f e = begun text (front_letters f.letters) f.after (subst (IsFound (after_blanks text)) e (found_in (after_blanks text)))
+pub part_sound : (text : List ℕ) (f : Found) → part_at text ≡ Some f → BeginsPart text (unescaped f.letters) f.after
+part_sound text f e = begun text (unescaped f.letters) f.after (subst (IsFound (after_blanks text)) e (found_in (after_blanks text)))
 
 -- ---- a part that begins the text is found
 
@@ -97,7 +117,7 @@ at_bar s = inr (s, refl)
 pub record FindsPart (text : List ℕ) (a : Tape) (rest : List ℕ) : Type 0 where
   pub found : Found
   pub is : part_at text ≡ Some found
-  pub letters : front_letters found.letters ≡ a
+  pub letters : unescaped found.letters ≡ a
   pub after : found.after ≡ rest
 
 bar_first : (s : List ℕ) → HasNone (124 ∷ s)
@@ -144,7 +164,7 @@ pub record Stands (part : List ℕ) (a : Tape) (tail : List ℕ) : Type 0 where
   pub first : after_blanks (part ++ tail) ≡ part ++ tail
   pub found : Found
   pub is : part_in (part ++ tail) ≡ Some found
-  pub letters : front_letters found.letters ≡ a
+  pub letters : unescaped found.letters ≡ a
   pub after : found.after ≡ after_blanks tail
 
 empty_stands : (tail : List ℕ) → Stands (codes "\\e") [] tail
@@ -156,9 +176,9 @@ quoted_stands a tail l =
     let t : letters_text a ++ 39 ∷ [] ++ tail ≡ letters_text a ++ 39 ∷ tail = append_assoc (letters_text a) (39 ∷ []) tail in
     record {
       first = refl;
-      found = record { letters = letters_text a ++ 39 ∷ [] ++ tail; after = after_blanks tail };
+      found = record { letters = text_before (39 ∷ tail) (letters_text a ++ 39 ∷ [] ++ tail); after = after_blanks tail };
       is = ap (closed (letters_text a ++ 39 ∷ [] ++ tail)) (ap after_letters t ∙ h.after);
-      letters = ap front_letters t ∙ h.front;
+      letters = ap (λ s. unescaped (text_before (39 ∷ tail) s)) t ∙ letters_before a (39 ∷ tail);
       after = refl;
     }
 
@@ -222,9 +242,9 @@ run_stands (x ∷ a) tail some l none =
     let b : BeginsRun text = rw (append_assoc (letter_text x) (letters_text a) tail) (letter_begins x (letters_text a ++ tail) (both_true (is_letter x) (are_letters a) l).0) in
     record {
       first = b.first;
-      found = record { letters = text; after = after_blanks (after_letters text) };
+      found = record { letters = text_before (after_letters text) text; after = after_blanks (after_letters text) };
       is = b.is ∙ ap (run text) h.front;
-      letters = h.front;
+      letters = text_read text ∙ h.front;
       after = ap after_blanks h.after;
     }
 

@@ -1,3 +1,11 @@
+pub mod Trees
+pub mod Grammar
+pub mod Machine
+pub mod Fronts
+pub mod Meaning
+pub mod Canonical
+pub mod Spelling
 pub mod Words
 pub mod WordParts
 pub mod WordAnswers
+pub mod Writing

@@ -1,8 +1,9 @@
 -- How the parts of a word are read, from left to right.
-use Rattle.std.specs.Prelude.{◌≡◌, ℕ, ◌==◌, ◌&&◌, Bool, false, drop, List, [], ◌∷◌, ◌++◌, map, Option, Some, None, if◌then◌else◌}
+use Rattle.std.specs.Prelude.{◌≡◌, ℕ, ◌-◌, length, take, ◌==◌, ◌&&◌, Bool, false, drop, List, [], ◌∷◌, ◌++◌, map, Option, Some, None, if◌then◌else◌}
 use Rattle.std.specs.Borrow.{Bor}
 use Rattle.vc_model.specs.Words.{Word, Tape}
 use Rattle.vc_text.specs.Blanks.{after_blanks}
+use Rattle.vc_text.specs.Escapes.{unescaped}
 use Rattle.vc_text.specs.Letters.{is_plain, is_escaped}
 use Rattle.vc_exprio.specs.Words.{SpellsWord}
 use Rattle.vc_exprio.specs.declared.parts.Part.{Part}
@@ -19,20 +20,24 @@ after_letters [] = []
 after_letters (x ∷ []) = if is_plain x then [] else x ∷ []
 after_letters (x ∷ y ∷ s) = if is_plain x then after_letters (y ∷ s) else (if x == 92 && is_escaped y then after_letters s else x ∷ y ∷ s)
 
--- a part: the text that begins with its letters, and the text behind the part and the blanks that follow
+-- the text of the letters in front of this rest of a text
+abbrev pub text_before : List ℕ → List ℕ → List ℕ
+text_before rest text = take (length text - length rest) text
+
+-- a part: the text of its letters, and the text behind the part and the blanks that follow
 pub record Found : Type 0 where
   pub letters : List ℕ
   pub after : List ℕ
 
 -- letters up to a single quote, which closes them
 abbrev pub closed : List ℕ → List ℕ → Option Found
-closed letters [] = None
-closed letters (x ∷ s) = if x == 39 then Some (record { letters = letters; after = after_blanks s }) else None
+closed text [] = None
+closed text (x ∷ s) = if x == 39 then Some (record { letters = text_before (x ∷ s) text; after = after_blanks s }) else None
 
 -- one or more letters
 abbrev pub run : List ℕ → Tape → Option Found
 run text [] = None
-run text (x ∷ a) = Some (record { letters = text; after = after_blanks (after_letters text) })
+run text (x ∷ a) = Some (record { letters = text_before (after_letters text) text; after = after_blanks (after_letters text) })
 
 abbrev pub begins_e : List ℕ → Bool
 begins_e [] = false
@@ -51,7 +56,7 @@ part_at text = part_in (after_blanks text)
 
 -- the letters of each part
 abbrev pub tapes_of : List (Bor (List ℕ)) → Word
-tapes_of parts = map (λ p. front_letters p.now) parts
+tapes_of parts = map (λ p. unescaped p.now) parts
 
 abbrev pub found : Part → Found
 found p = record { letters = p.letters.now; after = p.after.now }

@@ -8,7 +8,7 @@ ghost use Rattle.vc_label.specs.Letters.{is_letter};
 use std::alloc::{AllocError, Global};
 use vc_text::{after_blanks, letter_at};
 
-/// A part of a word: the text that begins with its letters, which goes on behind them, and the text after the part.
+/// A part of a word: the text of its letters, and the text after the part.
 #[derive(Clone, Copy)]
 pub(crate) struct Part<'t> {
     pub(crate) letters: &'t [u8],
@@ -16,7 +16,7 @@ pub(crate) struct Part<'t> {
 }
 
 /// The letter that a text begins with, and the text after it.
-pub(crate) fn next_letter(text: &[u8]) -> Option<(u8, &[u8])>
+fn next_letter(text: &[u8]) -> Option<(u8, &[u8])>
     ensures letters { MatchOption result ((front_letters text.now ≡ []) × (after_letters text.now ≡ text.now))
         (λ r. (front_letters text.now ≡ r.0 ∷ front_letters r.1.now) × (after_letters text.now ≡ after_letters r.1.now)) }
     ensures shorter { IfSome result (λ r. length r.1.now < length text.now) }
@@ -28,7 +28,8 @@ pub(crate) fn next_letter(text: &[u8]) -> Option<(u8, &[u8])>
 
 /// The text after the letters that it begins with.
 fn after_letters(text: &[u8]) -> &[u8]
-    ensures { result.now ≡ after_letters text.now }
+    ensures text { result.now ≡ after_letters text.now }
+    ensures shorter { length result.now ≤ length text.now }
 {
     let mut rest = text;
     while let Some((_, after)) = next_letter(rest) {
@@ -42,22 +43,27 @@ fn part_in(text: &[u8]) -> Option<Part<'_>>
     ensures { option_map found result ≡ part_in text.now }
 {
     match text {
-        [b'\'', letters @ ..] => match after_letters(letters) {
-            [b'\'', after @ ..] => Some(Part {
-                letters,
-                after: after_blanks(after),
-            }),
-            _ => None,
-        },
+        [b'\'', quoted @ ..] => {
+            let rest = after_letters(quoted);
+            let end = quoted.len() - rest.len();
+            match rest {
+                [b'\'', after @ ..] => Some(Part {
+                    letters: &quoted[..end],
+                    after: after_blanks(after),
+                }),
+                _ => None,
+            }
+        }
         [b'\\', b'e', after @ ..] => Some(Part {
             letters: &[],
             after: after_blanks(after),
         }),
         _ => {
             let _ = next_letter(text)?;
+            let rest = after_letters(text);
             Some(Part {
-                letters: text,
-                after: after_blanks(after_letters(text)),
+                letters: &text[..text.len() - rest.len()],
+                after: after_blanks(rest),
             })
         }
     }
@@ -73,7 +79,7 @@ fn after_bar(text: &[u8]) -> Option<&[u8]>
     }
 }
 
-/// The parts of a text, each by the text that begins with its letters. None where the text spells no word.
+/// The parts of a text, each by the text of its letters. None where the text spells no word.
 pub(crate) fn parts_of(alloc: Global, text: &[u8]) -> Result<Option<Vec<&[u8]>>, AllocError>
     ensures { IfOk result (λ parts. AreParts text.now (option_map (λ v. v.items) parts)) }
 {

@@ -1,15 +1,16 @@
 //! Words from their texts, and back.
-ghost use Rattle.std.specs.Prelude.{◌≡◌, ◌<◌, ◌≤◌, ◌++◌, ◌∷◌, [], List, ℕ, length, map, MatchBool, IfOk, OnOk, OnErr, IsTrue, slice_index_or, string_bytes};
+ghost use Rattle.std.specs.Prelude.{◌≡◌, ◌<◌, ◌≤◌, ◌++◌, ◌∷◌, [], List, ℕ, length, map, MatchBool, MatchOption, IfOk, IfSome, OnOk, OnErr, IsTrue, slice_index_or, string_bytes};
 ghost use Rattle.vc_exprio.specs.Words.{letters_text, part_text, word_text, IsOverAlphabets};
 ghost use Rattle.vc_exprio.specs.WordAnswers.{IsWordOf, IsPushed, IsWritten};
-ghost use Rattle.vc_exprio.specs.WordParts.{front_letters, tapes_of};
+ghost use Rattle.vc_exprio.specs.WordParts.{tapes_of};
 ghost use Rattle.vc_label.specs.Borrowed.{word_of};
 ghost use Rattle.vc_label.specs.Letters.{are_letters};
+ghost use Rattle.vc_text.specs.Escapes.{unescaped};
 ghost use Rattle.vc_text.specs.Growing.{IsFront};
 
-use crate::parts::{next_letter, parts_of};
+use crate::parts::parts_of;
 use std::alloc::{AllocError, Global};
-use vc_label::{Alphabet, LabelSet, Word, WordBuf};
+use vc_label::{Alphabet, LabelSet, Word, WordBuf, alphabets_are_sets};
 use vc_text::{cut_back, push_byte, push_letter, push_text};
 
 /// Why a text gives no word over a label set.
@@ -25,18 +26,31 @@ pub enum WordFault {
     Memory(AllocError),
 }
 
-/// Appends the letters that a text begins with to a tape. False where one is not in the alphabet.
-fn push_letters(
+/// The first byte of a text, without a backslash before it, and the text after it.
+fn next_byte(text: &[u8]) -> Option<(u8, &[u8])>
+    ensures bytes { MatchOption result (unescaped text.now ≡ []) (λ r. unescaped text.now ≡ r.0 ∷ unescaped r.1.now) }
+    ensures shorter { IfSome result (λ r. length r.1.now < length text.now) }
+{
+    match text {
+        [b'\\', byte, after @ ..] => Some((*byte, after)),
+        [byte, after @ ..] => Some((*byte, after)),
+        [] => None,
+    }
+}
+
+/// Appends the bytes of a text, each without the backslash before it, to a tape. False where one is not in the alphabet.
+fn push_bytes(
     word: &mut WordBuf,
     tape: usize,
     alphabet: Alphabet,
     text: &[u8],
 ) -> Result<bool, AllocError>
     requires { tape < length word.old }
-    ensures { IfOk result (λ over. IsPushed alphabet word.old tape (front_letters text.now) over word.new) }
+    ensures { IfOk result (λ over. IsPushed alphabet word.old tape (unescaped text.now) over word.new) }
 {
+    alphabets_are_sets();
     let mut rest = text;
-    while let Some((letter, after)) = next_letter(rest) {
+    while let Some((letter, after)) = next_byte(rest) {
         if !alphabet.has(letter) {
             return Ok(false);
         }
@@ -46,17 +60,17 @@ fn push_letters(
     Ok(true)
 }
 
-/// The text that begins with the letters of a tape.
+/// The text of the letters of a tape.
 #[tactic(auto, using(crate::proofs::GrownWords::part_on))]
 fn part_on<'t>(parts: &[&'t [u8]], tape: usize) -> &'t [u8]
     requires { tape < length parts.now }
-    ensures { front_letters result.now ≡ slice_index_or (tapes_of parts.now) tape [] }
+    ensures { unescaped result.now ≡ slice_index_or (tapes_of parts.now) tape [] }
 {
     parts[tape]
 }
 
-/// The word with these parts. None where a letter is not in the alphabet of its tape.
-fn word_with<L: LabelSet>(
+/// The word with these parts, each by the text of its letters. None where a letter is not in the alphabet of its tape.
+pub(crate) fn word_with<L: LabelSet>(
     alloc: Global,
     labels: &L,
     parts: &[&[u8]],
@@ -66,7 +80,7 @@ fn word_with<L: LabelSet>(
 {
     let mut word = WordBuf::new(alloc, labels.tapes());
     for tape in 0..labels.tapes() {
-        if !push_letters(
+        if !push_bytes(
             &mut word,
             tape,
             labels.tape(tape).alphabet,

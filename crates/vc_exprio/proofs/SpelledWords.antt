@@ -5,7 +5,8 @@ use Rattle.std.proofs.lemmas.Bool.Decides.{nat_tests}
 use Rattle.std.specs.List.{flat_map}
 use Rattle.vc_exprio.proofs.Letters.{both_true}
 use Rattle.vc_exprio.proofs.PartTexts.{Ends, at_end, at_bar, FindsPart, part_sound, part_complete}
-use Rattle.vc_exprio.specs.WordParts.{front_letters, Found, part_at, LeavesRest}
+use Rattle.vc_exprio.specs.WordParts.{Found, part_at, LeavesRest}
+use Rattle.vc_text.specs.Escapes.{unescaped}
 use Rattle.vc_exprio.specs.Words.{BeginsPart, SpellsWord, IsPartText, part_text, word_text}
 use Rattle.vc_label.specs.Letters.{are_letters, is_of_letters}
 use Rattle.vc_model.specs.Words.{Word, Tape}
@@ -18,7 +19,7 @@ one_part text a b r s er es p q =
     let f = part_complete text a r er p in
     let g = part_complete text b s es q in
     let same : f.found ≡ g.found = cc in
-    (sym f.letters ∙ ap (λ x. front_letters x.letters) same ∙ g.letters, sym f.after ∙ ap (λ x. x.after) same ∙ g.after)
+    (sym f.letters ∙ ap (λ x. unescaped x.letters) same ∙ g.letters, sym f.after ∙ ap (λ x. x.after) same ∙ g.after)
 
 tail_of : (r s : List ℕ) → 124 ∷ r ≡ 124 ∷ s → r ≡ s
 tail_of r s e = cc
@@ -39,28 +40,28 @@ one_word text (a ∷ b ∷ v) (c ∷ d ∷ w) (r, h, m) (s, k, n) =
 pub at_begin : (text : List ℕ) → LeavesRest text [] text
 at_begin text = record { sound = λ w h. h; complete = λ w h. (w, refl, h) }
 
-pub part_more : (text rest r : List ℕ) (tapes : Word) (f : Found) → LeavesRest text tapes rest → part_at rest ≡ Some f → f.after ≡ 124 ∷ r → LeavesRest text (tapes ++ front_letters f.letters ∷ []) r
+pub part_more : (text rest r : List ℕ) (tapes : Word) (f : Found) → LeavesRest text tapes rest → part_at rest ≡ Some f → f.after ≡ 124 ∷ r → LeavesRest text (tapes ++ unescaped f.letters ∷ []) r
 part_more text rest r tapes f l e k = record { sound = sound; complete = λ w h. complete w (l.complete w h) }
   where
-    here : BeginsPart rest (front_letters f.letters) (124 ∷ r)
-    here = subst (BeginsPart rest (front_letters f.letters)) k (part_sound rest f e)
+    here : BeginsPart rest (unescaped f.letters) (124 ∷ r)
+    here = subst (BeginsPart rest (unescaped f.letters)) k (part_sound rest f e)
 
-    sound : (w : Word) → SpellsWord r w → SpellsWord text (tapes ++ front_letters f.letters ∷ [] ++ w)
+    sound : (w : Word) → SpellsWord r w → SpellsWord text (tapes ++ unescaped f.letters ∷ [] ++ w)
     sound [] h = absurd h
-    sound (b ∷ w) h = subst (SpellsWord text) (sym (append_assoc tapes (front_letters f.letters ∷ []) (b ∷ w))) (l.sound (front_letters f.letters ∷ b ∷ w) (r, here, h))
+    sound (b ∷ w) h = subst (SpellsWord text) (sym (append_assoc tapes (unescaped f.letters ∷ []) (b ∷ w))) (l.sound (unescaped f.letters ∷ b ∷ w) (r, here, h))
 
-    rest_of : (w v : Word) → w ≡ tapes ++ v → SpellsWord rest v → (u : Word) × (w ≡ tapes ++ front_letters f.letters ∷ [] ++ u) × SpellsWord r u
+    rest_of : (w v : Word) → w ≡ tapes ++ v → SpellsWord rest v → (u : Word) × (w ≡ tapes ++ unescaped f.letters ∷ [] ++ u) × SpellsWord r u
     rest_of w [] q h = absurd h
-    rest_of w (a ∷ []) q h = absurd (let e = (one_part rest a (front_letters f.letters) [] (124 ∷ r) at_end (at_bar r) h here).1 in cc)
+    rest_of w (a ∷ []) q h = absurd (let e = (one_part rest a (unescaped f.letters) [] (124 ∷ r) at_end (at_bar r) h here).1 in cc)
     rest_of w (a ∷ b ∷ v) q (s, h, m) =
-        let o = one_part rest a (front_letters f.letters) (124 ∷ s) (124 ∷ r) (at_bar s) (at_bar r) h here in
-        (b ∷ v, q ∙ ap (λ x. tapes ++ x ∷ b ∷ v) o.0 ∙ sym (append_assoc tapes (front_letters f.letters ∷ []) (b ∷ v)), subst (λ t. SpellsWord t (b ∷ v)) (tail_of s r o.1) m)
+        let o = one_part rest a (unescaped f.letters) (124 ∷ s) (124 ∷ r) (at_bar s) (at_bar r) h here in
+        (b ∷ v, q ∙ ap (λ x. tapes ++ x ∷ b ∷ v) o.0 ∙ sym (append_assoc tapes (unescaped f.letters ∷ []) (b ∷ v)), subst (λ t. SpellsWord t (b ∷ v)) (tail_of s r o.1) m)
 
-    complete : (w : Word) → ((v : Word) × (w ≡ tapes ++ v) × SpellsWord rest v) → (u : Word) × (w ≡ tapes ++ front_letters f.letters ∷ [] ++ u) × SpellsWord r u
+    complete : (w : Word) → ((v : Word) × (w ≡ tapes ++ v) × SpellsWord rest v) → (u : Word) × (w ≡ tapes ++ unescaped f.letters ∷ [] ++ u) × SpellsWord r u
     complete w (v, q, h) = rest_of w v q h
 
-pub part_last : (text rest : List ℕ) (tapes : Word) (f : Found) → LeavesRest text tapes rest → part_at rest ≡ Some f → f.after ≡ [] → SpellsWord text (tapes ++ front_letters f.letters ∷ [])
-part_last text rest tapes f l e k = l.sound (front_letters f.letters ∷ []) (subst (BeginsPart rest (front_letters f.letters)) k (part_sound rest f e))
+pub part_last : (text rest : List ℕ) (tapes : Word) (f : Found) → LeavesRest text tapes rest → part_at rest ≡ Some f → f.after ≡ [] → SpellsWord text (tapes ++ unescaped f.letters ∷ [])
+part_last text rest tapes f l e k = l.sound (unescaped f.letters ∷ []) (subst (BeginsPart rest (unescaped f.letters)) k (part_sound rest f e))
 
 -- where nothing in front of an end or a bar is found, no word is spelled
 abbrev IsStuck : List ℕ → Type 0

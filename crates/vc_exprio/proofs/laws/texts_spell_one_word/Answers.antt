@@ -1,5 +1,0 @@
-use Rattle.vc_exprio.proofs.WordLaws.{one_word}
-use Rattle.vc_exprio.proofs.laws.texts_spell_one_word.Goals as goal
-
-pub returns : goal.returns
-returns c = one_word
