@@ -11,7 +11,8 @@ use Rattle.vc_terms.specs.DerivedTerms.{paired, derived_of, derived_of_sum, deri
 use Rattle.vc_terms.specs.Forms.{AreFactors, IsBuiltRoot, EverywhereIn, IsBuilt}
 use Rattle.vc_terms.specs.Kept.{IsKept}
 use Rattle.vc_terms.proofs.Forms.{factors_list_of, in_list_of, product_built, close_product, both_built, shuffle_built}
-use Rattle.vc_terms.proofs.KeptLaws.{product_kept, close_product_kept, listed, both_kept, shuffle_kept, tapes_kept, valid_kept}
+use Rattle.vc_terms.specs.KeptTrees.{product_kept, close_product_kept, listed, both_kept, shuffle_kept}
+use Rattle.vc_terms.proofs.KeptLaws.{tapes_kept, valid_kept}
 
 -- each tree of the list has P
 abbrev pub Each : {V : Type 0} → (Term V → Type 0) → List (Term V) → Type 0

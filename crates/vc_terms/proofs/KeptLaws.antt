@@ -1,114 +1,17 @@
--- The operations keep what goes from parts to the whole.
-use Rattle.std.proofs.Common.{◌≡◌, ℕ, List, [], ◌∷◌, ◌++◌, cond, Bool, true, false, refl, sym, ◌∙◌, subst, IsTrue}
-use Rattle.std.specs.List.{flat_map}
+-- The operations keep tapes and validity.
+use Rattle.std.proofs.Common.{◌≡◌, ℕ, cond, Bool, true, false, refl, sym, ◌∙◌, subst, IsTrue}
 use Rattle.std.proofs.lemmas.Bool.{true≢false}
 use Rattle.vc_model.specs.WeightSet.{WeightSet, SemiringLaws}
 use Rattle.vc_model.specs.Lists.{IsEqualityTest}
 use Rattle.vc_model.specs.Words.{is_empty, empty_word}
 use Rattle.vc_model.specs.WordLaws.{is_empty-size, length-empty_word}
-use Rattle.vc_terms.specs.Terms.{Term, Terms, NoTerms, MoreTerms, terms_of, list_of, Zero, One, Atom, Sum, Product, Star, Weight, Both, Shuffle, HasTapes, HaveTapes, IsValid, AreValid}
-use Rattle.vc_terms.specs.Trees.{is_zero, is_one}
-use Rattle.vc_terms.specs.Identities.{members_of, sum_of_members, sum_of, put_weight, weight_of, any_zero, unweighted, factors_of, product_of_factors, weight_in_front, all_factors, product_of, both_of, shuffle_of, star_of, built_of, built_all}
+use Rattle.vc_terms.specs.Terms.{Term, Terms, NoTerms, MoreTerms, terms_of, Zero, One, Atom, Sum, Product, Star, Weight, Both, Shuffle, HasTapes, HaveTapes, IsValid, AreValid}
+use Rattle.vc_terms.specs.Identities.{built_of, built_all}
 use Rattle.vc_terms.specs.Kept.{IsKept}
+use Rattle.vc_terms.specs.KeptTrees.{sum_kept, weight_kept, product_kept, both_kept, shuffle_kept, star_kept}
 use Rattle.vc_terms.specs.Terms.{IsOnTapes, AreOnTapes}
 use Rattle.vc_terms.specs.SeriesLaws.{SeriesLaws}
 use Rattle.vc_terms.proofs.RawTrees.{built-law}
-
-module _ {V : Type 0} (R : WeightSet V) (equal : V → V → Bool) (P : Term V → Type 0) (PS : Terms V → Type 0) (K : IsKept P PS) where
-  pub listed : (ts : Terms V) → PS ts → PS (terms_of (list_of ts))
-  listed NoTerms h = h
-  listed (MoreTerms t ts) h = K.more t (terms_of (list_of ts)) (K.first t ts h) (listed ts (K.others t ts h))
-
-  joined : (ts us : List (Term V)) → PS (terms_of ts) → PS (terms_of us) → PS (terms_of (ts ++ us))
-  joined [] us h k = k
-  joined (t ∷ ts) us h k = K.more t (terms_of (ts ++ us)) (K.first t (terms_of ts) h) (joined ts us (K.others t (terms_of ts) h) k)
-
-  single : (t : Term V) → P t → PS (terms_of (t ∷ []))
-  single t h = K.more t NoTerms h K.none
-
-  members_kept : (t : Term V) → P t → PS (terms_of (members_of t))
-  members_kept Zero h = K.none
-  members_kept (Sum ts) h = listed ts (K.members ts h)
-  members_kept t h = single t h
-
-  all_members_kept : (ts : List (Term V)) → PS (terms_of ts) → PS (terms_of (flat_map members_of ts))
-  all_members_kept [] h = h
-  all_members_kept (t ∷ ts) h = joined (members_of t) (flat_map members_of ts) (members_kept t (K.first t (terms_of ts) h)) (all_members_kept ts (K.others t (terms_of ts) h))
-
-  close_sum_kept : (ts : List (Term V)) → PS (terms_of ts) → P (sum_of_members ts)
-  close_sum_kept [] h = K.zero
-  close_sum_kept (t ∷ []) h = K.first t NoTerms h
-  close_sum_kept (t ∷ u ∷ us) h = K.sum (terms_of (t ∷ u ∷ us)) h
-
-  pub sum_kept : (ts : List (Term V)) → PS (terms_of ts) → P (sum_of ts)
-  sum_kept ts h = close_sum_kept (flat_map members_of ts) (all_members_kept ts h)
-
-  tested_kept : (k : V) (t u : Term V) → P t → P u → P (cond (equal k R.zero) Zero (cond (equal k R.one) t u))
-  tested_kept k t u h i = go (equal k R.zero) (equal k R.one)
-    where
-      go : (a b : Bool) → P (cond a Zero (cond b t u))
-      go true b = K.zero
-      go false true = h
-      go false false = i
-
-  put_weight_kept : (k : V) (t : Term V) → P t → P (put_weight R equal k t)
-  put_weight_kept k Zero h = K.zero
-  put_weight_kept k (Weight l t) h = tested_kept (R.times k l) t (put_weight R equal (R.times k l) t) (K.body l t h) (put_weight_kept (R.times k l) t (K.body l t h))
-  put_weight_kept k t h = K.weight k t h
-
-  pub weight_kept : (k : V) (t : Term V) → P t → P (weight_of R equal k t)
-  weight_kept k t h = tested_kept k t (put_weight R equal k t) h (put_weight_kept k t h)
-
-  factors_kept : (t : Term V) → P t → PS (terms_of (factors_of t))
-  factors_kept One h = K.none
-  factors_kept (Product ts) h = listed ts (K.factors ts h)
-  factors_kept t h = single t h
-
-  unweighted_kept : (t : Term V) → P t → P (unweighted t)
-  unweighted_kept (Weight k t) h = K.body k t h
-  unweighted_kept t h = h
-
-  all_factors_kept : (ts : List (Term V)) → PS (terms_of ts) → PS (terms_of (all_factors ts))
-  all_factors_kept [] h = h
-  all_factors_kept (t ∷ ts) h =
-      joined (factors_of (unweighted t)) (all_factors ts) (factors_kept (unweighted t) (unweighted_kept t (K.first t (terms_of ts) h))) (all_factors_kept ts (K.others t (terms_of ts) h))
-
-  pub close_product_kept : (ts : List (Term V)) → PS (terms_of ts) → P (product_of_factors ts)
-  close_product_kept [] h = K.one
-  close_product_kept (t ∷ []) h = K.first t NoTerms h
-  close_product_kept (t ∷ u ∷ us) h = K.product (terms_of (t ∷ u ∷ us)) h
-
-  pub product_kept : (ts : List (Term V)) → PS (terms_of ts) → P (product_of R equal ts)
-  product_kept ts h = go (any_zero ts)
-    where
-      go : (b : Bool) → P (cond b Zero (weight_of R equal (weight_in_front R ts) (product_of_factors (all_factors ts))))
-      go true = K.zero
-      go false = weight_kept (weight_in_front R ts) (product_of_factors (all_factors ts)) (close_product_kept (all_factors ts) (all_factors_kept ts h))
-
-  pub both_kept : (t u : Term V) → P (Both t u) → P (both_of t u)
-  both_kept t u h = go (is_zero t) (is_zero u)
-    where
-      go : (a b : Bool) → P (cond a Zero (cond b Zero (Both t u)))
-      go true b = K.zero
-      go false true = K.zero
-      go false false = h
-
-  pub shuffle_kept : (t u : Term V) → P t → P u → P (Shuffle t u) → P (shuffle_of t u)
-  shuffle_kept t u h i j = go (is_zero t) (is_zero u) (is_one t) (is_one u)
-    where
-      go : (m n p q : Bool) → P (cond m Zero (cond n Zero (cond p u (cond q t (Shuffle t u)))))
-      go true n p q = K.zero
-      go false true p q = K.zero
-      go false false true q = i
-      go false false false true = h
-      go false false false false = j
-
-  pub star_kept : (t : Term V) → P (Star t) → P (star_of t)
-  star_kept t h = go (is_zero t)
-    where
-      go : (b : Bool) → P (cond b One (Star t))
-      go true = K.one
-      go false = h
 
 module _ {V : Type 0} (R : WeightSet V) (equal : V → V → Bool) (tapes : ℕ) where
   pub tapes_kept : IsKept {V = V} (HasTapes tapes) (HaveTapes tapes)

@@ -1,7 +1,7 @@
 -- The form of the trees that the operations build.
 use Rattle.std.specs.Prelude.{◌≡◌, Bool, false}
 use Rattle.vc_model.specs.WeightSet.{WeightSet}
-use Rattle.vc_model.specs.Words.{is_empty}
+use Rattle.vc_model.specs.Words.{Word, is_empty}
 use Rattle.vc_terms.specs.Terms.{Term, Terms, NoTerms, MoreTerms, Zero, One, Atom, Sum, Product, Star, Weight, Both, Shuffle}
 
 -- neither Zero nor a sum
@@ -84,3 +84,8 @@ abbrev mutual
 -- the tree is as the operations build it
 abbrev pub IsBuilt : {V : Type 0} → WeightSet V → (V → V → Bool) → Term V → Type 0
 IsBuilt R equal t = Everywhere (IsBuiltRoot R equal) t
+
+-- a label at the root has the property
+abbrev pub HasRootLabel : {V : Type 0} → (Word → Type 0) → Term V → Type 0
+HasRootLabel P (Atom a) = P a
+HasRootLabel P t = Unit {0}

@@ -6,6 +6,7 @@ pub mod Trees
 pub mod Identities
 pub mod Forms
 pub mod Kept
+pub mod KeptTrees
 pub mod Same
 pub mod SeriesLaws
 pub mod Codes
