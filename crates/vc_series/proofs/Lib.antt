@@ -1,0 +1,8 @@
+mod Pairs
+mod Summing
+mod Work
+mod Parts
+mod StarSteps
+mod Loops
+mod Arms
+mod TermOf
