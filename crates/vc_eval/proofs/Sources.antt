@@ -1,34 +1,27 @@
 -- Row steps source by source.
-use Rattle.std.proofs.Common.{◌≡◌, ℕ, ◌<◌, ◌+◌, ◌-◌, ◌==◌, IsTrue, List, [], ◌∷◌, ◌++◌, All, Ok, Err, Bool, true, false, not, cond, set, length, filter, refl, sym, ap, ap₂, ◌∙◌, inl, inr, zero, suc, arith, append_assoc}
+use Rattle.std.proofs.Common.{◌≡◌, ℕ, ◌<◌, ◌≤◌, ◌+◌, ◌-◌, ◌==◌, max, List, [], ◌∷◌, ◌++◌, All, Option, Ok, Err, length, filter, get_or, drop, map, refl, sym, ap, ◌∙◌, inl, inr, zero, suc, arith, append_assoc}
 use Rattle.std.specs.List.{flat_map}
-use Rattle.std.proofs.lemmas.Bool.{eqb-true}
-use Rattle.std.proofs.lemmas.List.{set-get_or}
-use Rattle.vc_label.specs.declared.tape_set.TapeSet.{TapeSet}
-use Rattle.vc_model.specs.WeightSet.{WeightSet, SemiringLaws, RangeLaws, InRange}
+use Rattle.std.proofs.lemmas.Bool.{eqb-true, eq-eqb}
+use Rattle.vc_model.specs.WeightSet.{WeightSet}
 use Rattle.vc_model.specs.Automata.{Transition, Automaton}
-use Rattle.vc_model.specs.Letters.{letter_of, HasLetters}
-use Rattle.vc_model.specs.Lists.{In, up_from}
-use Rattle.vc_model.specs.Members.{In-filter_from}
-use Rattle.vc_model.specs.OutcomeLaws.{outcome-append_ok, outcome-append_err, outcome-fits}
-use Rattle.vc_model.specs.Rearranged.{zero_times}
-use Rattle.vc_aut.specs.Validity.{IsMove}
-use Rattle.vc_ring.specs.Steps.{outcome, fits, AllFit}
+use Rattle.vc_model.specs.Lists.{In, up_from, below}
+use Rattle.vc_model.specs.Members.{In-filter, In-filter_from, In-flat_map, In-flat_map_from, In-up_from, up_from-In}
+use Rattle.vc_model.specs.OutcomeLaws.{outcome-append_ok, outcome-append_err}
+use Rattle.vc_model.specs.Words.{Word, size}
+use Rattle.vc_ring.specs.Steps.{outcome, fits}
 use Rattle.vc_ring.specs.declared.faults.Overflow.{Overflow}
-use Rattle.vc_ring.specs.declared.faults.Overflow.TheVariants.{Add, Mul}
-use Rattle.vc_eval.specs.Moves.{entry, IsLetterMove, moved, move_steps, moved_once, once_steps}
+use Rattle.vc_eval.specs.Cells.{longest}
+use Rattle.vc_eval.specs.Forward.{by_source}
+use Rattle.vc_eval.specs.Moves.{moved, move_steps, moved_once, once_steps}
 use Rattle.vc_eval.proofs.Sweeps.{next_number}
+use Rattle.vc_eval.proofs.Pushes.{next_item}
 
 -- the transitions from the states from s up to n, by source
 abbrev pub from_states : {V : Type 0} → List (Transition V) → ℕ → ℕ → List (Transition V)
 from_states ts s n = flat_map (λ p. filter (λ u. u.from == p) ts) (up_from s (n - s))
 
-next_source : {V : Type 0} (ts : List (Transition V)) (s n : ℕ) → s < n → from_states ts s n ≡ filter (λ u. u.from == s) ts ++ from_states ts (s + 1) n
+pub next_source : {V : Type 0} (ts : List (Transition V)) (s n : ℕ) → s < n → from_states ts s n ≡ filter (λ u. u.from == s) ts ++ from_states ts (s + 1) n
 next_source ts s n h = ap (flat_map (λ p. filter (λ u. u.from == p) ts)) (next_number s n h)
-
--- a test whose negation fails
-pub unequal : (b c : Bool) → c ≡ false → c ≡ not b → b ≡ true
-unequal true c e f = refl
-unequal false c e f = absurd (cc)
 
 -- a list whose members all have a property
 pub All_of : {X : Type 0} (P : X → Type 0) (xs : List X) → ((x : X) → In x xs → P x) → All P xs
@@ -36,94 +29,105 @@ All_of P [] h k d l = absurd (omega arith)
 All_of P (x ∷ xs) h zero d l = h x (inl refl)
 All_of P (x ∷ xs) h (suc k) d l = All_of P xs (λ y i. h y (inr i)) k d (omega arith)
 
-module _ {V : Type 0} (R : WeightSet V) (A : Automaton V) (sets : List TapeSet) (moves : (t : Transition V) → In t A.transitions → IsMove R sets A.states t) (H : HasLetters A) where
-  pub letter_move : (s : ℕ) (u : Transition V) → In u (filter (λ u. u.from == s) A.transitions) → IsLetterMove R A.states u × (u.from ≡ s)
-  letter_move s u i =
-      let j = In-filter_from (λ u. u.from == s) u A.transitions i in
-      let m = moves u j.0 in
-      (record { to = m.to; weight = m.weight; label = H u j.0 }, eqb-true u.from s j.1)
+-- what is true of all transitions is true of those from a state
+pub All_from : {V : Type 0} (P : Transition V → Type 0) (ts : List (Transition V)) (s : ℕ) → ((u : Transition V) → In u ts → P u) → All P (filter (λ u. u.from == s) ts)
+All_from P ts s h = All_of P (filter (λ u. u.from == s) ts) (λ u i. h u (In-filter_from (λ u. u.from == s) u ts i).0)
 
-  pub letter_moves : (s : ℕ) → All (IsLetterMove R A.states) (filter (λ u. u.from == s) A.transitions)
-  letter_moves s = All_of (IsLetterMove R A.states) (filter (λ u. u.from == s) A.transitions) (λ u i. (letter_move s u i).0)
+-- the transitions by source are those of the automaton
+pub by_source-In : {V : Type 0} (A : Automaton V) (u : Transition V) → In u (by_source A) → In u A.transitions × (u.from < A.states)
+by_source-In A u i =
+    let r = In-flat_map_from (λ s. filter (λ t. t.from == s) A.transitions) u (below A.states) i in
+    let f = In-filter_from (λ t. t.from == r.0) u A.transitions r.2 in
+    let e : u.from ≡ r.0 = eqb-true u.from r.0 f.1 in
+    let b = In-up_from r.0 0 A.states r.1 in
+    (f.0, omega (arith, b.1))
 
-module _ {V : Type 0} (R : WeightSet V) (x : ℕ) where
-  move_steps-append : (g : ℕ → V) (us vs : List (Transition V)) (row : List V) → move_steps R g x (us ++ vs) row ≡ move_steps R g x us row ++ move_steps R g x vs (moved R g x us row)
-  move_steps-append g [] vs row = refl
-  move_steps-append g (u ∷ us) vs row =
-      ap (λ ss. once_steps R g x u row ++ ss) (move_steps-append g us vs (moved_once R g x u row))
-      ∙ sym (append_assoc (once_steps R g x u row) (move_steps R g x us (moved_once R g x u row)) (move_steps R g x vs (moved R g x us (moved_once R g x u row))))
+pub In-by_source : {V : Type 0} (A : Automaton V) (u : Transition V) → In u A.transitions → u.from < A.states → In u (by_source A)
+In-by_source A u i l =
+    In-flat_map (λ s. filter (λ t. t.from == s) A.transitions) u u.from (below A.states) (up_from-In u.from 0 A.states (omega arith) (omega arith))
+    (In-filter (λ t. t.from == u.from) u A.transitions i (eq-eqb u.from u.from refl))
 
-  moved-append : (g : ℕ → V) (us vs : List (Transition V)) (row : List V) → moved R g x (us ++ vs) row ≡ moved R g x vs (moved R g x us row)
-  moved-append g [] vs row = refl
-  moved-append g (u ∷ us) vs row = moved-append g us vs (moved_once R g x u row)
+module _ {V : Type 0} (R : WeightSet V) (h : List V → Transition V → Option V) (at : ℕ) where
+  move_steps-append : (us vs : List (Transition V)) (rows : List V) → move_steps R h at (us ++ vs) rows ≡ move_steps R h at us rows ++ move_steps R h at vs (moved R h at us rows)
+  move_steps-append [] vs rows = refl
+  move_steps-append (u ∷ us) vs rows =
+      let next = moved_once R at (h rows u) u rows in
+      ap (λ ss. once_steps R at (h rows u) u rows ++ ss) (move_steps-append us vs next)
+      ∙ sym (append_assoc (once_steps R at (h rows u) u rows) (move_steps R h at us next) (move_steps R h at vs (moved R h at us next)))
 
-  -- only the entries at the sources count
-  pub move_steps_same : (g h : ℕ → V) (us : List (Transition V)) (row : List V) → ((u : Transition V) → In u us → g u.from ≡ h u.from) → move_steps R g x us row ≡ move_steps R h x us row
-  move_steps_same g h [] row e = refl
-  move_steps_same g h (u ∷ us) row e =
-      ap (λ v. once_steps R (λ _. v) x u row ++ move_steps R g x us (moved_once R (λ _. v) x u row)) (e u (inl refl))
-      ∙ ap (λ ss. once_steps R h x u row ++ ss) (move_steps_same g h us (moved_once R h x u row) (λ t i. e t (inr i)))
+  moved-append : (us vs : List (Transition V)) (rows : List V) → moved R h at (us ++ vs) rows ≡ moved R h at vs (moved R h at us rows)
+  moved-append [] vs rows = refl
+  moved-append (u ∷ us) vs rows = moved-append us vs (moved_once R at (h rows u) u rows)
 
-  pub moved_same : (g h : ℕ → V) (us : List (Transition V)) (row : List V) → ((u : Transition V) → In u us → g u.from ≡ h u.from) → moved R g x us row ≡ moved R h x us row
-  moved_same g h [] row e = refl
-  moved_same g h (u ∷ us) row e =
-      ap (λ v. moved R g x us (moved_once R (λ _. v) x u row)) (e u (inl refl))
-      ∙ moved_same g h us (moved_once R h x u row) (λ t i. e t (inr i))
-
-  module _ (g : ℕ → V) (ts : List (Transition V)) (s n : ℕ) (below : s < n) (v : V) (same : v ≡ g s) (row : List V) where
+  module _ (ts : List (Transition V)) (s n : ℕ) (below : s < n) (rows : List V) where
     abbrev here : List (Transition V)
     here = filter (λ u. u.from == s) ts
 
-    from_here : (u : Transition V) → In u here → v ≡ g u.from
-    from_here u i = same ∙ ap g (sym (eqb-true u.from s (In-filter_from (λ u. u.from == s) u ts i).1))
+    pub push_rows : moved R h at (from_states ts s n) rows ≡ moved R h at (from_states ts (s + 1) n) (moved R h at (filter (λ u. u.from == s) ts) rows)
+    push_rows = ap (λ us. moved R h at us rows) (next_source ts s n below) ∙ moved-append here (from_states ts (s + 1) n) rows
 
-    pub push_row : moved R g x (from_states ts s n) row ≡ moved R g x (from_states ts (s + 1) n) (moved R (λ _. v) x (filter (λ u. u.from == s) ts) row)
-    push_row =
-        ap (λ us. moved R g x us row) (next_source ts s n below)
-        ∙ moved-append g here (from_states ts (s + 1) n) row
-        ∙ ap (moved R g x (from_states ts (s + 1) n)) (sym (moved_same (λ _. v) g here row from_here))
-
-    split : outcome R (move_steps R g x (from_states ts s n) row) (tt {0}) ≡ outcome R (move_steps R (λ _. v) x here row ++ move_steps R g x (from_states ts (s + 1) n) (moved R (λ _. v) x here row)) (tt {0})
+    split : outcome R (move_steps R h at (from_states ts s n) rows) (tt {0}) ≡ outcome R (move_steps R h at here rows ++ move_steps R h at (from_states ts (s + 1) n) (moved R h at here rows)) (tt {0})
     split =
-        ap (λ us. outcome R (move_steps R g x us row) (tt {0})) (next_source ts s n below)
-        ∙ ap (λ ss. outcome R ss (tt {0})) (move_steps-append g here (from_states ts (s + 1) n) row)
-        ∙ ap₂ (λ ss new. outcome R (ss ++ move_steps R g x (from_states ts (s + 1) n) new) (tt {0})) (sym (move_steps_same (λ _. v) g here row from_here)) (sym (moved_same (λ _. v) g here row from_here))
+        ap (λ us. outcome R (move_steps R h at us rows) (tt {0})) (next_source ts s n below)
+        ∙ ap (λ ss. outcome R ss (tt {0})) (move_steps-append here (from_states ts (s + 1) n) rows)
 
-    pub push_ok : outcome R (move_steps R (λ _. v) x (filter (λ u. u.from == s) ts) row) (tt {0}) ≡ Ok (tt {0})
-        → outcome R (move_steps R g x (from_states ts s n) row) (tt {0}) ≡ outcome R (move_steps R g x (from_states ts (s + 1) n) (moved R (λ _. v) x (filter (λ u. u.from == s) ts) row)) (tt {0})
-    push_ok o = split ∙ outcome-append_ok (fits R) (move_steps R (λ _. v) x here row) (move_steps R g x (from_states ts (s + 1) n) (moved R (λ _. v) x here row)) (tt {0}) (tt {0}) o
+    pub push_ok : outcome R (move_steps R h at (filter (λ u. u.from == s) ts) rows) (tt {0}) ≡ Ok (tt {0})
+        → outcome R (move_steps R h at (from_states ts s n) rows) (tt {0}) ≡ outcome R (move_steps R h at (from_states ts (s + 1) n) (moved R h at (filter (λ u. u.from == s) ts) rows)) (tt {0})
+    push_ok o = split ∙ outcome-append_ok (fits R) (move_steps R h at here rows) (move_steps R h at (from_states ts (s + 1) n) (moved R h at here rows)) (tt {0}) (tt {0}) o
 
-    pub push_err : (e : Overflow V) → outcome R (move_steps R (λ _. v) x (filter (λ u. u.from == s) ts) row) (tt {0}) ≡ Err e
-        → outcome R (move_steps R g x (from_states ts s n) row) (tt {0}) ≡ Err e
-    push_err e o = split ∙ outcome-append_err (fits R) (move_steps R (λ _. v) x here row) (move_steps R g x (from_states ts (s + 1) n) (moved R (λ _. v) x here row)) (tt {0}) (tt {0}) e o
+    pub push_err : (e : Overflow V) → outcome R (move_steps R h at (filter (λ u. u.from == s) ts) rows) (tt {0}) ≡ Err e
+        → outcome R (move_steps R h at (from_states ts s n) rows) (tt {0}) ≡ Err e
+    push_err e o = split ∙ outcome-append_err (fits R) (move_steps R h at here rows) (move_steps R h at (from_states ts (s + 1) n) (moved R h at here rows)) (tt {0}) (tt {0}) e o
 
-module _ {V : Type 0} {R : WeightSet V} (L : SemiringLaws R) (K : RangeLaws R) (x : ℕ) where
-  zero_row : (row : List V) (u : Transition V) → u.to < length row → set row u.to (R.plus (entry R row u.to) (R.times R.zero u.weight)) ≡ row
-  zero_row row u h = ap (λ a. set row u.to a) (ap (R.plus (entry R row u.to)) (zero_times L u.weight) ∙ L.plus_zero (entry R row u.to)) ∙ set-get_or row u.to R.zero
+-- the longest label of two lists together
+longest-append : {V : Type 0} (m : ℕ) (us vs : List (Transition V)) → longest m (us ++ vs) ≡ longest (longest m us) vs
+longest-append m [] vs = refl
+longest-append m (u ∷ us) vs = longest-append (max m (size u.label)) us vs
 
-  zero_once : (row : List V) (u : Transition V) → u.to < length row → moved_once R (λ _. R.zero) x u row ≡ row
-  zero_once row u h = go (letter_of u == x)
-    where
-      go : (b : Bool) → cond b (set row u.to (R.plus (entry R row u.to) (R.times R.zero u.weight))) row ≡ row
-      go true = zero_row row u h
-      go false = refl
+pub longest-states : {V : Type 0} (m : ℕ) (ts : List (Transition V)) (s n : ℕ) → s < n → longest m (from_states ts s n) ≡ longest (longest m (filter (λ u. u.from == s) ts)) (from_states ts (s + 1) n)
+longest-states m ts s n l = ap (longest m) (next_source ts s n l) ∙ longest-append m (filter (λ u. u.from == s) ts) (from_states ts (s + 1) n)
 
-  -- a source whose entry is zero changes nothing
-  pub zero_moved : (us : List (Transition V)) (row : List V) → ((u : Transition V) → In u us → u.to < length row) → moved R (λ _. R.zero) x us row ≡ row
-  zero_moved [] row h = refl
-  zero_moved (u ∷ us) row h = ap (moved R (λ _. R.zero) x us) (zero_once row u (h u (inl refl))) ∙ zero_moved us row (λ t i. h t (inr i))
+same_size : {V : Type 0} {t u : Transition V} → u ≡ t → size u.label ≡ size t.label
+same_size e = ap (λ z. size z.label) e
 
-  zero_fits : (row : List V) (u : Transition V) → IsTrue (R.in_range (entry R row u.to)) → IsTrue (R.in_range u.weight) → AllFit R (once_steps R (λ _. R.zero) x u row)
-  zero_fits row u h k = go (letter_of u == x)
-    where
-      go : (b : Bool) → AllFit R (cond b (Mul R.zero u.weight ∷ Add (entry R row u.to) (R.times R.zero u.weight) ∷ []) [])
-      go true = (K.zero_times_fits u.weight k, (ap (λ z. R.fits_plus (entry R row u.to) z) (zero_times L u.weight) ∙ K.plus_zero_fits (entry R row u.to) h, tt))
-      go false = tt
+-- the longest label is at least as long as each
+pub longest-least : {V : Type 0} (m : ℕ) (ts : List (Transition V)) → m ≤ longest m ts
+longest-least m [] = omega arith
+longest-least m (t ∷ ts) = let h = longest-least (max m (size t.label)) ts in omega (arith, h)
 
-  pub zero_steps : (us : List (Transition V)) (row : List V) → InRange R row → ((u : Transition V) → In u us → (u.to < length row) × IsTrue (R.in_range u.weight)) → outcome R (move_steps R (λ _. R.zero) x us row) (tt {0}) ≡ Ok (tt {0})
-  zero_steps [] row r h = refl
-  zero_steps (u ∷ us) row r h =
-      let m = h u (inl refl) in
-      outcome-append_ok (fits R) (once_steps R (λ _. R.zero) x u row) (move_steps R (λ _. R.zero) x us (moved_once R (λ _. R.zero) x u row)) (tt {0}) (tt {0}) (outcome-fits (fits R) (once_steps R (λ _. R.zero) x u row) (tt {0}) (zero_fits row u (r u.to R.zero m.0) m.1))
-      ∙ ap (λ new. outcome R (move_steps R (λ _. R.zero) x us new) (tt {0})) (zero_once row u m.0)
-      ∙ zero_steps us row r (λ t i. h t (inr i))
+pub longest-In : {V : Type 0} (m : ℕ) (ts : List (Transition V)) (u : Transition V) → In u ts → size u.label ≤ longest m ts
+longest-In m [] u i = absurd i
+longest-In m (t ∷ ts) u (inl e) = let h = longest-least (max m (size t.label)) ts in let f = same_size e in omega (arith, h, f)
+longest-In m (t ∷ ts) u (inr i) = longest-In (max m (size t.label)) ts u i
+
+-- and no longer than a number that is so
+longest-most : {V : Type 0} (m k : ℕ) (ts : List (Transition V)) → m ≤ k → ((u : Transition V) → In u ts → size u.label ≤ k) → longest m ts ≤ k
+longest-most m k [] l h = l
+longest-most m k (t ∷ ts) l h = let f = h t (inl refl) in longest-most (max m (size t.label)) k ts (omega (arith, f)) (λ u i. h u (inr i))
+
+pub longest-by_source : {V : Type 0} (m : ℕ) (A : Automaton V) → ((u : Transition V) → In u A.transitions → u.from < A.states) → longest m (by_source A) ≡ longest m A.transitions
+longest-by_source m A from =
+    let a = longest-most m (longest m A.transitions) (by_source A) (longest-least m A.transitions) (λ u i. longest-In m A.transitions u (by_source-In A u i).0) in
+    let b = longest-most m (longest m (by_source A)) A.transitions (longest-least m (by_source A)) (λ u i. longest-In m (by_source A) u (In-by_source A u i (from u i))) in
+    omega (arith, a, b)
+
+-- a word of one tape has the size of that tape
+pub size_single : (w : Word) → length w ≡ 1 → size w ≡ length (get_or w 0 [])
+size_single [] e = absurd (omega arith)
+size_single (a ∷ []) e = omega arith
+size_single (a ∷ b ∷ w) e = absurd (omega arith)
+
+-- the longest label with an item more
+pub longest-item : {T V : Type 0} (f : T → Transition V) (ts : List T) (i : ℕ) (t : T) (m k : ℕ) → i < length ts → t ≡ get_or ts i t → k ≡ max m (size (f t).label) → longest m (drop i (map f ts)) ≡ longest k (drop (i + 1) (map f ts))
+longest-item f ts i t m k l e d = ap (longest m) (next_item f ts i t l e) ∙ ap (λ n. longest n (drop (i + 1) (map f ts))) (sym d)
+
+-- no state is left
+pub no_states : {V : Type 0} (ts : List (Transition V)) (s n : ℕ) → n ≤ s → from_states ts s n ≡ []
+no_states ts s n l = let e : n - s ≡ 0 = omega arith in ap (λ k. flat_map (λ p. filter (λ u. u.from == p) ts) (up_from s k)) e
+
+-- behind the last item nothing is left
+pub no_items : {X : Type 0} (xs : List X) (i : ℕ) → length xs ≤ i → drop i xs ≡ []
+no_items [] zero l = refl
+no_items [] (suc i) l = refl
+no_items (x ∷ xs) zero l = absurd (omega arith)
+no_items (x ∷ xs) (suc i) l = no_items xs i (omega arith)

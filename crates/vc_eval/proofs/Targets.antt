@@ -1,12 +1,11 @@
 -- What a row step does at each target: a sum of products, with its steps.
-use Rattle.std.proofs.Common.{◌≡◌, ◌≢◌, ℕ, ◌<◌, ◌==◌, IsTrue, List, [], ◌∷◌, ◌++◌, Bool, true, false, cond, set, length, map, refl, sym, ap, ◌∙◌, inl, inr, subst}
+use Rattle.std.proofs.Common.{◌≡◌, ◌≢◌, ℕ, ◌<◌, ◌+◌, ◌==◌, IsTrue, List, [], ◌∷◌, ◌++◌, Bool, true, false, Option, None, Some, cond, set, length, map, refl, sym, ap, ◌∙◌, inl, inr, subst, arith}
 use Rattle.std.specs.List.{flat_map}
 use Rattle.std.proofs.lemmas.List.{get_or-set_same, get_or-set_other, length-set}
 use Rattle.std.proofs.lemmas.Bool.{eq-eqb}
 use Rattle.std.proofs.lemmas.Bool.Decides.{eqb_tells}
 use Rattle.vc_model.specs.WeightSet.{WeightSet}
 use Rattle.vc_model.specs.Automata.{Transition}
-use Rattle.vc_model.specs.Letters.{letter_of}
 use Rattle.vc_model.specs.Lists.{In}
 use Rattle.vc_model.specs.Sums.{sum_onto}
 use Rattle.vc_model.specs.Members.{In-append_left, In-append_right, In-append_cases}
@@ -40,120 +39,139 @@ module _ {V : Type 0} (R : WeightSet V) where
         | inr j ↦ inr (In-append_right e muls (Add a (R.times v w) ∷ adds) (inr j))
       ]
 
-module _ {V : Type 0} (R : WeightSet V) (g : ℕ → V) (x : ℕ) where
-  -- what the transitions with the letter multiply at a target
+-- what a transition multiplies, if anything
+abbrev pub factor : {V : Type 0} → Transition V → Option V → List (V × V)
+factor u None = []
+factor u (Some v) = (v, u.weight) ∷ []
+
+module _ {V : Type 0} (R : WeightSet V) (h : Transition V → Option V) (at : ℕ) where
+  -- what is multiplied does not depend on the rows
+  abbrev pub fixed : List V → Transition V → Option V
+  fixed rows u = h u
+
+  -- what the transitions multiply at a target
   abbrev pub factors_to : ℕ → List (Transition V) → List (V × V)
-  factors_to t us = flat_map (λ u. cond (u.to == t) (cond (letter_of u == x) ((g u.from, u.weight) ∷ []) []) []) us
+  factors_to t us = flat_map (λ u. cond (u.to == t) (factor u (h u)) []) us
 
-  -- the row after one transition with the letter
-  abbrev added : Transition V → List V → List V
-  added u row = set row u.to (R.plus (entry R row u.to) (R.times (g u.from) u.weight))
+  -- the rows after one product more
+  abbrev added : V → Transition V → List V → List V
+  added v u rows = set rows (at + u.to) (R.plus (entry R rows (at + u.to)) (R.times v u.weight))
 
-  added_same : (u : Transition V) (row : List V) (t : ℕ) → t < length row → u.to ≡ t → entry R (added u row) t ≡ R.plus (entry R row t) (R.times (g u.from) u.weight)
-  added_same u row t l e = subst (λ k. entry R (set row k (R.plus (entry R row k) (R.times (g u.from) u.weight))) t ≡ R.plus (entry R row t) (R.times (g u.from) u.weight)) (sym e) (get_or-set_same row t (R.plus (entry R row t) (R.times (g u.from) u.weight)) R.zero l)
+  added_same : (v : V) (u : Transition V) (rows : List V) (t : ℕ) → at + t < length rows → u.to ≡ t → entry R (added v u rows) (at + t) ≡ R.plus (entry R rows (at + t)) (R.times v u.weight)
+  added_same v u rows t l e = subst (λ k. entry R (set rows (at + k) (R.plus (entry R rows (at + k)) (R.times v u.weight))) (at + t) ≡ R.plus (entry R rows (at + t)) (R.times v u.weight)) (sym e) (get_or-set_same rows (at + t) (R.plus (entry R rows (at + t)) (R.times v u.weight)) R.zero l)
 
-  added_other : (u : Transition V) (row : List V) (t : ℕ) → u.to ≢ t → entry R (added u row) t ≡ entry R row t
-  added_other u row t n = get_or-set_other row u.to t (R.plus (entry R row u.to) (R.times (g u.from) u.weight)) R.zero (λ e. n (sym e))
+  added_other : (v : V) (u : Transition V) (rows : List V) (t : ℕ) → u.to ≢ t → entry R (added v u rows) (at + t) ≡ entry R rows (at + t)
+  added_other v u rows t n = get_or-set_other rows (at + u.to) (at + t) (R.plus (entry R rows (at + u.to)) (R.times v u.weight)) R.zero (λ e. n (omega (arith, e)))
 
-  moved_once-length : (u : Transition V) (row : List V) → length (moved_once R g x u row) ≡ length row
-  moved_once-length u row = go (letter_of u == x)
-    where
-      go : (b : Bool) → length (cond b (added u row) row) ≡ length row
-      go true = length-set row u.to (R.plus (entry R row u.to) (R.times (g u.from) u.weight))
-      go false = refl
+  pub moved_once-length : (o : Option V) (u : Transition V) (rows : List V) → length (moved_once R at o u rows) ≡ length rows
+  moved_once-length None u rows = refl
+  moved_once-length (Some v) u rows = length-set rows (at + u.to) (R.plus (entry R rows (at + u.to)) (R.times v u.weight))
 
-  pub moved-length : (us : List (Transition V)) (row : List V) → length (moved R g x us row) ≡ length row
-  moved-length [] row = refl
-  moved-length (u ∷ us) row = moved-length us (moved_once R g x u row) ∙ moved_once-length u row
+  pub moved-length : (us : List (Transition V)) (rows : List V) → length (moved R fixed at us rows) ≡ length rows
+  moved-length [] rows = refl
+  moved-length (u ∷ us) rows = moved-length us (moved_once R at (h u) u rows) ∙ moved_once-length (h u) u rows
+
+  longer : (u : Transition V) (rows : List V) (k : ℕ) → k < length rows → k < length (moved_once R at (h u) u rows)
+  longer u rows k l = subst (λ n. k < n) (sym (moved_once-length (h u) u rows)) l
 
   -- each entry is the sum of the products that arrive there
-  pub moved-entry : (us : List (Transition V)) (row : List V) (t : ℕ) → t < length row → entry R (moved R g x us row) t ≡ sum_onto R (entry R row t) (products R (factors_to t us))
-  moved-entry [] row t l = refl
-  moved-entry (u ∷ us) row t l = moved-entry us (moved_once R g x u row) t (subst (λ n. t < n) (sym (moved_once-length u row)) l) ∙ go (letter_of u == x)
+  pub moved-entry : (us : List (Transition V)) (rows : List V) (t : ℕ) → at + t < length rows → entry R (moved R fixed at us rows) (at + t) ≡ sum_onto R (entry R rows (at + t)) (products R (factors_to t us))
+  moved-entry [] rows t l = refl
+  moved-entry (u ∷ us) rows t l = moved-entry us (moved_once R at (h u) u rows) t (longer u rows (at + t) l) ∙ go (h u)
     where
-      go : (b : Bool) → sum_onto R (entry R (cond b (added u row) row) t) (products R (factors_to t us)) ≡ sum_onto R (entry R row t) (products R (cond (u.to == t) (cond b ((g u.from, u.weight) ∷ []) []) [] ++ factors_to t us))
-      go true = elim (eqb_tells u.to t) [
+      go : (o : Option V) → sum_onto R (entry R (moved_once R at o u rows) (at + t)) (products R (factors_to t us)) ≡ sum_onto R (entry R rows (at + t)) (products R (cond (u.to == t) (factor u o) [] ++ factors_to t us))
+      go (Some v) = elim (eqb_tells u.to t) [
         | inl e ↦
-            ap (λ a. sum_onto R a (products R (factors_to t us))) (added_same u row t l e.1)
-            ∙ sym (ap (λ c. sum_onto R (entry R row t) (products R (cond c ((g u.from, u.weight) ∷ []) [] ++ factors_to t us))) e.0)
+            ap (λ a. sum_onto R a (products R (factors_to t us))) (added_same v u rows t l e.1)
+            ∙ sym (ap (λ c. sum_onto R (entry R rows (at + t)) (products R (cond c ((v, u.weight) ∷ []) [] ++ factors_to t us))) e.0)
         | inr n ↦
-            ap (λ a. sum_onto R a (products R (factors_to t us))) (added_other u row t n.1)
-            ∙ sym (ap (λ c. sum_onto R (entry R row t) (products R (cond c ((g u.from, u.weight) ∷ []) [] ++ factors_to t us))) n.0)
+            ap (λ a. sum_onto R a (products R (factors_to t us))) (added_other v u rows t n.1)
+            ∙ sym (ap (λ c. sum_onto R (entry R rows (at + t)) (products R (cond c ((v, u.weight) ∷ []) [] ++ factors_to t us))) n.0)
       ]
-      go false = idle (u.to == t)
+      go None = idle (u.to == t)
         where
-          idle : (c : Bool) → sum_onto R (entry R row t) (products R (factors_to t us)) ≡ sum_onto R (entry R row t) (products R (cond c [] [] ++ factors_to t us))
+          idle : (c : Bool) → sum_onto R (entry R rows (at + t)) (products R (factors_to t us)) ≡ sum_onto R (entry R rows (at + t)) (products R (cond c [] [] ++ factors_to t us))
           idle true = refl
           idle false = refl
 
-  -- where all steps fit, those at a target do
-  pub moved-fits : (us : List (Transition V)) (row : List V) (t : ℕ) → t < length row → AllFit R (move_steps R g x us row) → AllFit R (products_steps R (entry R row t) (factors_to t us))
-  moved-fits [] row t l h = tt
-  moved-fits (u ∷ us) row t l h =
-      let r = AllFit-append_from (fits R) (once_steps R g x u row) (move_steps R g x us (moved_once R g x u row)) h in
-      go (letter_of u == x) r.0 (moved-fits us (moved_once R g x u row) t (subst (λ n. t < n) (sym (moved_once-length u row)) l) r.1)
+  -- the entries of other rows stay
+  pub moved-other : (us : List (Transition V)) (rows : List V) (k : ℕ) → ((u : Transition V) → In u us → k ≢ at + u.to) → entry R (moved R fixed at us rows) k ≡ entry R rows k
+  moved-other [] rows k n = refl
+  moved-other (u ∷ us) rows k n = moved-other us (moved_once R at (h u) u rows) k (λ t i. n t (inr i)) ∙ go (h u)
     where
-      go : (b : Bool) → AllFit R (cond b (Mul (g u.from) u.weight ∷ Add (entry R row u.to) (R.times (g u.from) u.weight) ∷ []) [])
-          → AllFit R (products_steps R (entry R (cond b (added u row) row) t) (factors_to t us))
-          → AllFit R (products_steps R (entry R row t) (cond (u.to == t) (cond b ((g u.from, u.weight) ∷ []) []) [] ++ factors_to t us))
-      go true o k = elim (eqb_tells u.to t) [
+      go : (o : Option V) → entry R (moved_once R at o u rows) k ≡ entry R rows k
+      go None = refl
+      go (Some v) = get_or-set_other rows (at + u.to) k (R.plus (entry R rows (at + u.to)) (R.times v u.weight)) R.zero (n u (inl refl))
+
+  -- where all steps fit, those at a target do
+  pub moved-fits : (us : List (Transition V)) (rows : List V) (t : ℕ) → at + t < length rows → AllFit R (move_steps R fixed at us rows) → AllFit R (products_steps R (entry R rows (at + t)) (factors_to t us))
+  moved-fits [] rows t l k = tt
+  moved-fits (u ∷ us) rows t l k =
+      let r = AllFit-append_from (fits R) (once_steps R at (h u) u rows) (move_steps R fixed at us (moved_once R at (h u) u rows)) k in
+      go (h u) r.0 (moved-fits us (moved_once R at (h u) u rows) t (longer u rows (at + t) l) r.1)
+    where
+      go : (o : Option V) → AllFit R (once_steps R at o u rows)
+          → AllFit R (products_steps R (entry R (moved_once R at o u rows) (at + t)) (factors_to t us))
+          → AllFit R (products_steps R (entry R rows (at + t)) (cond (u.to == t) (factor u o) [] ++ factors_to t us))
+      go (Some v) f k = elim (eqb_tells u.to t) [
         | inl e ↦
-            subst (λ c. AllFit R (products_steps R (entry R row t) (cond c ((g u.from, u.weight) ∷ []) [] ++ factors_to t us))) (sym e.0)
-            (cons_fit R (entry R row t) (g u.from) u.weight (factors_to t us) o.0
-            (subst (λ i. IsTrue (fits R (Add (entry R row i) (R.times (g u.from) u.weight)))) e.1 o.1.0)
-            (subst (λ a. AllFit R (products_steps R a (factors_to t us))) (added_same u row t l e.1) k))
+            subst (λ c. AllFit R (products_steps R (entry R rows (at + t)) (cond c ((v, u.weight) ∷ []) [] ++ factors_to t us))) (sym e.0)
+            (cons_fit R (entry R rows (at + t)) v u.weight (factors_to t us) f.0
+            (subst (λ i. IsTrue (fits R (Add (entry R rows (at + i)) (R.times v u.weight)))) e.1 f.1.0)
+            (subst (λ a. AllFit R (products_steps R a (factors_to t us))) (added_same v u rows t l e.1) k))
         | inr n ↦
-            subst (λ c. AllFit R (products_steps R (entry R row t) (cond c ((g u.from, u.weight) ∷ []) [] ++ factors_to t us))) (sym n.0)
-            (subst (λ a. AllFit R (products_steps R a (factors_to t us))) (added_other u row t n.1) k)
+            subst (λ c. AllFit R (products_steps R (entry R rows (at + t)) (cond c ((v, u.weight) ∷ []) [] ++ factors_to t us))) (sym n.0)
+            (subst (λ a. AllFit R (products_steps R a (factors_to t us))) (added_other v u rows t n.1) k)
       ]
-      go false o k = idle (u.to == t)
+      go None f k = idle (u.to == t)
         where
-          idle : (c : Bool) → AllFit R (products_steps R (entry R row t) (cond c [] [] ++ factors_to t us))
+          idle : (c : Bool) → AllFit R (products_steps R (entry R rows (at + t)) (cond c [] [] ++ factors_to t us))
           idle true = k
           idle false = k
 
   -- a step is one of the steps at some target
   abbrev pub IsAtTarget : Overflow V → List (Transition V) → List V → Type 0
-  IsAtTarget e us row = (t : ℕ) × (t < length row) × In e (products_steps R (entry R row t) (factors_to t us))
+  IsAtTarget e us rows = (t : ℕ) × (at + t < length rows) × In e (products_steps R (entry R rows (at + t)) (factors_to t us)) × (u : Transition V) × In u us × (u.to ≡ t)
 
-  pub moved-In : (us : List (Transition V)) (row : List V) (e : Overflow V) → ((u : Transition V) → In u us → u.to < length row) → In e (move_steps R g x us row) → IsAtTarget e us row
-  moved-In [] row e w i = absurd i
-  moved-In (u ∷ us) row e w i = elim (In-append_cases e (once_steps R g x u row) (move_steps R g x us (moved_once R g x u row)) i) [
-    | inl j ↦ first (letter_of u == x) j
-    | inr j ↦ later (letter_of u == x) (moved-In us (moved_once R g x u row) e (λ t k. subst (λ n. t.to < n) (sym (moved_once-length u row)) (w t (inr k))) j)
+  -- with a transition in front that multiplies o
+  abbrev IsAtOne : Overflow V → Option V → Transition V → List (Transition V) → List V → Type 0
+  IsAtOne e o u us rows = (t : ℕ) × (at + t < length rows) × In e (products_steps R (entry R rows (at + t)) (cond (u.to == t) (factor u o) [] ++ factors_to t us)) × (s : Transition V) × In s (u ∷ us) × (s.to ≡ t)
+
+  pub moved-In : (us : List (Transition V)) (rows : List V) (e : Overflow V) → ((u : Transition V) → In u us → at + u.to < length rows) → In e (move_steps R fixed at us rows) → IsAtTarget e us rows
+  moved-In [] rows e w i = absurd i
+  moved-In (u ∷ us) rows e w i = elim (In-append_cases e (once_steps R at (h u) u rows) (move_steps R fixed at us (moved_once R at (h u) u rows)) i) [
+    | inl j ↦ first (h u) j
+    | inr j ↦ later (h u) (moved-In us (moved_once R at (h u) u rows) e (λ t k. longer u rows (at + t.to) (w t (inr k))) j)
   ]
     where
-      own : In e (products_steps R (entry R row u.to) ((g u.from, u.weight) ∷ factors_to u.to us))
-          → (t : ℕ) × (t < length row) × In e (products_steps R (entry R row t) (cond (u.to == t) ((g u.from, u.weight) ∷ []) [] ++ factors_to t us))
-      own j = (u.to, w u (inl refl), subst (λ c. In e (products_steps R (entry R row u.to) (cond c ((g u.from, u.weight) ∷ []) [] ++ factors_to u.to us))) (sym (eq-eqb u.to u.to refl)) j)
+      own : (v : V) → In e (products_steps R (entry R rows (at + u.to)) ((v, u.weight) ∷ factors_to u.to us)) → IsAtOne e (Some v) u us rows
+      own v j = (u.to, w u (inl refl), subst (λ c. In e (products_steps R (entry R rows (at + u.to)) (cond c ((v, u.weight) ∷ []) [] ++ factors_to u.to us))) (sym (eq-eqb u.to u.to refl)) j, u, inl refl, refl)
 
-      first : (b : Bool) → In e (cond b (Mul (g u.from) u.weight ∷ Add (entry R row u.to) (R.times (g u.from) u.weight) ∷ []) [])
-          → (t : ℕ) × (t < length row) × In e (products_steps R (entry R row t) (cond (u.to == t) (cond b ((g u.from, u.weight) ∷ []) []) [] ++ factors_to t us))
-      first true (inl q) = own (subst (λ s. In s (products_steps R (entry R row u.to) ((g u.from, u.weight) ∷ factors_to u.to us))) (sym q) (cons_Mul R (entry R row u.to) (g u.from) u.weight (factors_to u.to us)))
-      first true (inr (inl q)) = own (subst (λ s. In s (products_steps R (entry R row u.to) ((g u.from, u.weight) ∷ factors_to u.to us))) (sym q) (cons_Add R (entry R row u.to) (g u.from) u.weight (factors_to u.to us)))
-      first true (inr (inr j)) = absurd j
-      first false j = absurd j
+      first : (o : Option V) → In e (once_steps R at o u rows) → IsAtOne e o u us rows
+      first (Some v) (inl q) = own v (subst (λ s. In s (products_steps R (entry R rows (at + u.to)) ((v, u.weight) ∷ factors_to u.to us))) (sym q) (cons_Mul R (entry R rows (at + u.to)) v u.weight (factors_to u.to us)))
+      first (Some v) (inr (inl q)) = own v (subst (λ s. In s (products_steps R (entry R rows (at + u.to)) ((v, u.weight) ∷ factors_to u.to us))) (sym q) (cons_Add R (entry R rows (at + u.to)) v u.weight (factors_to u.to us)))
+      first (Some v) (inr (inr j)) = absurd j
+      first None j = absurd j
 
-      later : (b : Bool) → (t : ℕ) × (t < length (cond b (added u row) row)) × In e (products_steps R (entry R (cond b (added u row) row) t) (factors_to t us))
-          → (t : ℕ) × (t < length row) × In e (products_steps R (entry R row t) (cond (u.to == t) (cond b ((g u.from, u.weight) ∷ []) []) [] ++ factors_to t us))
-      later true (t, l, j) =
-          let k : t < length row = subst (λ n. t < n) (length-set row u.to (R.plus (entry R row u.to) (R.times (g u.from) u.weight))) l in
-          elim (eqb_tells u.to t) [
-            | inl q ↦ (
-              t,
-              k,
-              subst (λ c. In e (products_steps R (entry R row t) (cond c ((g u.from, u.weight) ∷ []) [] ++ factors_to t us))) (sym q.0)
-                  (cons_rest R (entry R row t) (g u.from) u.weight (factors_to t us) e (subst (λ a. In e (products_steps R a (factors_to t us))) (added_same u row t k q.1) j)),
-            )
-            | inr n ↦ (
-              t,
-              k,
-              subst (λ c. In e (products_steps R (entry R row t) (cond c ((g u.from, u.weight) ∷ []) [] ++ factors_to t us))) (sym n.0)
-                  (subst (λ a. In e (products_steps R a (factors_to t us))) (added_other u row t n.1) j),
-            )
-          ]
-      later false (t, l, j) = (t, l, idle (u.to == t))
+      later : (o : Option V) → (t : ℕ) × (at + t < length (moved_once R at o u rows)) × In e (products_steps R (entry R (moved_once R at o u rows) (at + t)) (factors_to t us)) × (s : Transition V) × In s us × (s.to ≡ t) → IsAtOne e o u us rows
+      later (Some v) (t, l, j, s, i, q) =
+          let k : at + t < length rows = subst (λ n. at + t < n) (length-set rows (at + u.to) (R.plus (entry R rows (at + u.to)) (R.times v u.weight))) l in (
+            t,
+            k,
+            elim (eqb_tells u.to t) [
+              | inl q ↦
+                  subst (λ c. In e (products_steps R (entry R rows (at + t)) (cond c ((v, u.weight) ∷ []) [] ++ factors_to t us))) (sym q.0)
+                  (cons_rest R (entry R rows (at + t)) v u.weight (factors_to t us) e (subst (λ a. In e (products_steps R a (factors_to t us))) (added_same v u rows t k q.1) j))
+              | inr n ↦
+                  subst (λ c. In e (products_steps R (entry R rows (at + t)) (cond c ((v, u.weight) ∷ []) [] ++ factors_to t us))) (sym n.0)
+                  (subst (λ a. In e (products_steps R a (factors_to t us))) (added_other v u rows t n.1) j)
+            ],
+            s,
+            inr i,
+            q,
+          )
+      later None (t, l, j, s, i, q) = (t, l, idle (u.to == t), s, inr i, q)
         where
-          idle : (c : Bool) → In e (products_steps R (entry R row t) (cond c [] [] ++ factors_to t us))
+          idle : (c : Bool) → In e (products_steps R (entry R rows (at + t)) (cond c [] [] ++ factors_to t us))
           idle true = j
           idle false = j

@@ -1,4 +1,6 @@
 pub mod Forward
+pub mod Positions
 pub mod Moves
+pub mod LetterMoves
 pub mod Cells
 pub mod Ready

@@ -1,11 +1,24 @@
--- What an evaluator keeps.
-use Rattle.std.specs.Prelude.{◌≡◌, List, length}
+-- What an evaluator keeps, and the room that rows need.
+use Rattle.std.specs.Prelude.{◌≡◌, ℕ, Bool, IsTrue, ◌<◌, ◌≤◌, ◌*◌, List, length}
 use Rattle.vc_aut.specs.Labelled.{Labelled}
+use Rattle.vc_model.specs.Automata.{Automaton, Transition}
 use Rattle.vc_model.specs.Letters.{HasLetters}
+use Rattle.vc_model.specs.Lists.{In}
+use Rattle.vc_model.specs.WeightSet.{WeightSet, InRange}
+use Rattle.vc_model.specs.Words.{Word}
+use Rattle.vc_eval.specs.Cells.{cells}
+use Rattle.vc_eval.specs.Positions.{positions, place_of}
 
--- an automaton of one tape whose labels are single letters, and two rows with an entry for each state
-pub record IsReady {V : Type 0} (a : Labelled V) (row next : List V) : Type 0 where
+-- an automaton of one tape, whether each label is a single letter, and a row for each letter of the longest label and one more
+pub record IsReady {V : Type 0} (R : WeightSet V) (a : Labelled V) (single : Bool) (rows : List V) : Type 0 where
   pub tapes : length a.sets ≡ 1
-  pub letters : HasLetters a.automaton
-  pub row_length : length row ≡ a.automaton.states
-  pub next_length : length next ≡ a.automaton.states
+  pub letters : IsTrue single → HasLetters a.automaton
+  pub cells : length rows ≡ cells a.automaton
+  pub in_range : InRange R rows
+
+-- so many cells are whole rows, and as many as a label leads back from a position
+pub record HasRoom {V : Type 0} (A : Automaton V) (w : Word) (cells : ℕ) : Type 0 where
+  pub count : ℕ
+  pub some : 1 ≤ count
+  pub whole : cells ≡ count * A.states
+  pub window : (u : Transition V) → In u A.transitions → (p : ℕ) → p < positions w → place_of w u.label ≤ p → place_of w u.label < count

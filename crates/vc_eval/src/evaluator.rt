@@ -1,28 +1,28 @@
+//! The evaluator of an automaton of one tape, which serves many words.
+
 use crate::rows::forward;
+use crate::size::{longest, past_cells, zeros};
 use std::alloc::{AllocError, Global};
 use std::marker::Model;
-use vc_aut::Automaton;
+use vc_aut::{Proper, proper_automata_are_proper};
 use vc_label::{LabelSet, Word};
-use vc_ring::{Limit, MakeFault, Measure, Overflow, Semiring};
+use vc_ring::{MakeFault, Overflow, Semiring};
 
-/// The most entries of the rows of one evaluator.
-const MOST_CELLS: u64 = 20_000_000;
-
-/// Answers the coefficients of an automaton of one tape, whose labels are single letters.
+/// Answers the coefficients of a proper automaton of one tape.
 ///
-/// It keeps two rows with a weight for each state, and uses them for every word. The row of a
-/// prefix has at each state the sum of the weights of the paths to it that read the prefix, so the
-/// coefficient is the row of the whole word times the final weights (Sakarovitch, Elements of
-/// Automata Theory). A contract sees an evaluator as its automaton.
+/// It keeps a row with a weight for each state for each letter of the longest label and one more,
+/// and uses them in turn, for every word. The row of a prefix has at each state the sum of the
+/// weights of the paths to it that read the prefix, so the coefficient is the row of the whole word
+/// times the final weights (Sakarovitch, Elements of Automata Theory). A contract sees an evaluator
+/// as its automaton.
 #[derive(Drop)]
 pub struct Evaluator<'p, L: LabelSet, S: Semiring> {
-    automaton: &'p Automaton<L, S>,
-    row: Vec<S::Value>,
-    next: Vec<S::Value>,
+    automaton: &'p Proper<L, S>,
+    single: bool,
+    rows: Vec<S::Value>,
 }
 
 impl<'p, L: LabelSet, S: Semiring> Model for Evaluator<'p, L, S> {
-    ghost use Rattle.std.specs.Prelude.{◌≡◌, length};
     ghost use Rattle.vc_aut.specs.Labelled.{Labelled, labelled_code};
     ghost use Rattle.vc_label.specs.contracts.tape_set.TapeSet.{the_row};
     ghost use Rattle.vc_eval.specs.Ready.{IsReady};
@@ -33,7 +33,7 @@ impl<'p, L: LabelSet, S: Semiring> Model for Evaluator<'p, L, S> {
 
     ghost view = { λ e. e.automaton.now };
 
-    ghost invariant = { λ e. IsReady e.automaton.now e.row.items e.next.items };
+    ghost invariant = { λ e. IsReady S.set e.automaton.now e.single e.rows.items };
 }
 
 impl<'p, L: LabelSet, S: Semiring> Evaluator<'p, L, S> {
@@ -43,37 +43,32 @@ impl<'p, L: LabelSet, S: Semiring> Evaluator<'p, L, S> {
     ghost use Rattle.vc_eval.specs.Forward.{forward_steps};
     ghost use Rattle.vc_label.specs.Borrowed.{word_of};
     ghost use Rattle.vc_model.specs.Automata.{coefficient};
-    ghost use Rattle.vc_model.specs.Letters.{HasLetters};
     ghost use Rattle.vc_ring.specs.Steps.{IsOutcome};
 
-    /// An evaluator of the automaton. `Limit` of `Cells` comes where the rows have more than
+    /// An evaluator of the automaton. `Limit` of `Cells` comes exactly where the rows have more than
     /// 20,000,000 entries together, and `Overflow` never comes.
     pub fn new(
         alloc: Global,
-        aut: &'p Automaton<L, S>,
+        aut: &'p Proper<L, S>,
     ) -> Result<Evaluator<'p, L, S>, MakeFault<S::Value>>
-        requires tapes { length aut.now.sets ≡ 1 }
-        requires letters { HasLetters aut.now.automaton }
+        requires { length aut.now.sets ≡ 1 }
         ensures automaton { IfOk result (λ e. e ≡ aut.now) }
         ensures answer { IsAnswer (cells_refusal aut.now.automaton) result }
     {
-        let states = aut.states() as usize;
-        if 2 * states as u64 > MOST_CELLS {
-            return Err(MakeFault::Limit(Limit {
-                what: Measure::Cells,
-                most: MOST_CELLS,
-            }));
+        proper_automata_are_proper(aut);
+        let states = aut.automaton().states();
+        let longest = longest(aut.automaton());
+        let cells = (longest as u128 + 1) * states as u128;
+        if cells > 20_000_000 {
+            return Err(past_cells::<S>());
         }
-        let Ok(row) = Vec::from_elem(alloc, S::zero(), states) else {
-            return Err(MakeFault::Memory(AllocError));
-        };
-        let Ok(next) = Vec::from_elem(alloc, S::zero(), states) else {
+        let Ok(rows) = zeros::<S>(alloc, cells as usize) else {
             return Err(MakeFault::Memory(AllocError));
         };
         Ok(Evaluator {
             automaton: aut,
-            row,
-            next,
+            single: longest == 1,
+            rows,
         })
     }
 
@@ -86,6 +81,9 @@ impl<'p, L: LabelSet, S: Semiring> Evaluator<'p, L, S> {
         ensures in_range { IfOk result (λ v. IsTrue (S.set.in_range v)) }
         ensures value { IsOutcome S.set (forward_steps S.set self.old.automaton (word_of word.entry)) (coefficient S.set self.old.automaton (word_of word.entry)) result }
     {
-        forward(self.automaton, word.tape(0), &mut self.row, &mut self.next)
+        proper_automata_are_proper(self.automaton);
+        let positions = word.tape(0).len() + 1;
+        let aut = self.automaton.automaton();
+        forward(aut, word, positions, self.single, &mut self.rows)
     }
 }

@@ -3,7 +3,12 @@
 
 mod evaluator;
 mod laws;
+mod letters;
 mod rows;
+mod size;
+mod tuple;
+mod words;
 
 pub use evaluator::Evaluator;
 pub use laws::letters_are_labels;
+pub use tuple::eval_tuple;

@@ -1,0 +1,93 @@
+use Rattle.std.proofs.Common.{◌≡◌, ◌<◌, ◌+◌, ◌==◌, All, filter, length, ap, sym, ◌∙◌, subst, arith}
+use Rattle.std.proofs.lemmas.List.{get_or_default}
+use Rattle.std.proofs.lemmas.Result.{err_from_is_err_and}
+use Rattle.vc_model.specs.Members.{In-filter_from}
+use Rattle.vc_model.specs.WeightSet.{InRange}
+use Rattle.vc_ring.specs.Steps.{outcome}
+use Rattle.vc_eval.specs.LetterMoves.{IsLetterMove, by_letter, with_letter}
+use Rattle.vc_eval.specs.Moves.{entry, moved, move_steps}
+use Rattle.vc_eval.proofs.LetterSources.{from_state, zero_moved, zero_steps, unequal}
+use Rattle.vc_eval.proofs.Sources.{from_states, All_from, push_rows, push_ok, push_err}
+use Rattle.vc_eval.proofs.letters.push_row.Goals as goal
+use Rattle.vc_eval.proofs.letters.push_row.Goals.{then-ne+in_ok-push, else-ne}
+
+pub push-requires-clause-moves : goal.push-requires-clause-moves
+push-requires-clause-moves g c =
+    let R = g.S.Semiring.set in
+    let A = c.args.aut.now.automaton in
+    let at = c.args.at in
+    let n : length c.args.rows.now ≡ length c.loop-s.rows = sym c.loop-s.auto.rows in
+    let inside = c.requires.apart.inside in
+    subst (λ us. All (IsLetterMove R at (length c.loop-s.rows)) us) (sym c.transitions_from.ensures)
+    (subst (λ k. All (IsLetterMove R at k) (filter (λ u. u.from == c.loop-s.s) A.transitions)) n
+    (All_from (IsLetterMove R at (length c.args.rows.now)) A.transitions c.loop-s.s (λ u i.
+    let m = c.automata_are_valid.ensures.moves u i in
+    let to = m.to in
+    record { to = omega (arith, to, inside); weight = m.weight; label = c.requires.letters u i })))
+
+pub returns-in_err-push-clause-steps : goal.returns-in_err-push-clause-steps
+returns-in_err-push-clause-steps g c =
+    let R = g.S.Semiring.set in
+    let A = c.args.aut.now.automaton in
+    let at = c.args.at in
+    let before = c.args.before in
+    let x = c.args.letter in
+    let s = c.loop-s.s in
+    let rows = c.loop-s.rows in
+    let v = c.index-rows-before.result in
+    let below : s < A.states = omega arith in
+    let same : entry R rows (before + s) ≡ v = sym (c.index-rows-before.is ∙ get_or_default rows (before + s) v R.zero (omega arith)) in
+    let own = from_state R at x before s v A.transitions rows same (λ u i. c.requires.apart.apart s u.to below (c.automata_are_valid.ensures.moves u i).to) in
+    let p = err_from_is_err_and c.from_residual.result c.from_residual.ensures.1 in
+    rw (p.1, p.2)
+    (sym (push_err R (by_letter R x before) at A.transitions s A.states below rows c.in_err-push.field-0.0
+    (ap (λ ss. outcome R ss (tt {0})) own.1
+    ∙ ap (λ us. outcome R (move_steps R (with_letter x v) at us rows) (tt {0})) (sym c.transitions_from.ensures) ∙ sym c.in_err-push.ensures.steps))
+    ∙ c.loop-s.invariant.steps)
+
+pub loop-s-preserved : goal.loop-s-preserved
+loop-s-preserved g c =
+    let R = g.S.Semiring.set in
+    let A = c.args.aut.now.automaton in
+    let at = c.args.at in
+    let before = c.args.before in
+    let x = c.args.letter in
+    let s = c.loop-s.s in
+    let rows = c.loop-s.rows in
+    let h = by_letter R x before in
+    let v = c.index-rows-before.result in
+    let here = filter (λ u. u.from == s) A.transitions in
+    let rest = from_states A.transitions (s + 1) A.states in
+    let below : s < A.states = omega arith in
+    let same : entry R rows (before + s) ≡ v = sym (c.index-rows-before.is ∙ get_or_default rows (before + s) v R.zero (omega arith)) in
+    let own = from_state R at x before s v A.transitions rows same (λ u i. c.requires.apart.apart s u.to below (c.automata_are_valid.ensures.moves u i).to) in
+    elim c.if-ne.branch [
+      | then-ne+in_ok-push w ↦
+          let brought : c.if-ne.rows ≡ moved R h at here rows
+          = w.rows-is ∙ w.in_ok-push.ensures.rows ∙ ap (λ us. moved R (with_letter x v) at us rows) w.transitions_from.ensures ∙ sym own.0 in
+          let fit = ap (λ ss. outcome R ss (tt {0})) own.1
+          ∙ ap (λ us. outcome R (move_steps R (with_letter x v) at us rows) (tt {0})) (sym w.transitions_from.ensures) ∙ sym w.in_ok-push.ensures.steps in
+          record {
+            in_range = subst (InRange R) (sym w.rows-is) w.push.ensures.rows_in;
+            steps = ap (λ new. outcome R (move_steps R h at rest new) (tt {0})) brought ∙ sym (push_ok R h at A.transitions s A.states below rows fit) ∙ c.loop-s.invariant.steps;
+            moved = ap (moved R h at rest) brought ∙ sym (push_rows R h at A.transitions s A.states below rows) ∙ c.loop-s.invariant.moved;
+          }
+      | else-ne w ↦
+          let L = g.met.S.Semiring.laws in
+          let K = g.met.S.Semiring.ranges in
+          let none : v ≡ R.zero = (g.met.S.Semiring.same v c.zero.result).0 (unequal _ c.ne.result w.if-ne.false c.ne.ensures) ∙ c.zero.ensures in
+          let held : moved R h at here rows ≡ rows = own.0 ∙ ap (λ z. moved R (with_letter x z) at here rows) none ∙ zero_moved L K at x here rows in
+          let inside = c.requires.apart.inside in
+          let long = c.loop-s.auto.rows in
+          let fit = ap (λ ss. outcome R ss (tt {0})) own.1
+          ∙ ap (λ z. outcome R (move_steps R (with_letter x z) at here rows) (tt {0})) none
+          ∙ zero_steps L K at x here rows c.loop-s.invariant.in_range (λ u i.
+          let m = c.automata_are_valid.ensures.moves u (In-filter_from (λ u. u.from == s) u A.transitions i).0 in
+          let to = m.to in
+          (omega (arith, to, inside, long), m.weight)) in
+          record {
+            in_range = subst (InRange R) (sym w.rows-is) c.loop-s.invariant.in_range;
+            steps = ap (λ new. outcome R (move_steps R h at rest new) (tt {0})) (w.rows-is ∙ sym held) ∙ sym (push_ok R h at A.transitions s A.states below rows fit) ∙ c.loop-s.invariant.steps;
+            moved = ap (moved R h at rest) (w.rows-is ∙ sym held) ∙ sym (push_rows R h at A.transitions s A.states below rows) ∙ c.loop-s.invariant.moved;
+          }
+    ]
