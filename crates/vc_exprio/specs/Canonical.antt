@@ -1,11 +1,12 @@
 -- The one canonical text of each expression, by its tokens.
-use Rattle.std.specs.Prelude.{ℕ, Bool, true, false, List, [], ◌∷◌, ◌++◌, codes, if◌then◌else◌, ⊤}
+use Rattle.std.specs.Prelude.{ℕ, Bool, true, false, List, [], ◌∷◌, ◌++◌, codes, if◌then◌else◌}
 use Rattle.std.specs.List.{flat_map}
 use Rattle.vc_label.specs.Sets.{IsOverSets}
 use Rattle.vc_label.specs.declared.tape_set.TapeSet.{TapeSet}
 use Rattle.vc_text.specs.Letters.{letter_text}
 use Rattle.vc_lex.specs.declared.token.TokenKind.{TokenKind}
 use Rattle.vc_lex.specs.declared.token.TokenKind.TheVariants as kinds
+use Rattle.vc_terms.specs.Forms.{HasRootLabel}
 use Rattle.vc_terms.specs.Terms.{Term, Terms, Zero, One, Atom, Sum, Product, Star, Weight, Both, Shuffle, NoTerms, MoreTerms}
 use Rattle.vc_model.specs.Words.{Word, Tape}
 
@@ -115,7 +116,6 @@ module _ {V : Type 0} (canonical : V → List ℕ) where
   abbrev pub expression_text : Term V → List ℕ
   expression_text t = flat_map (λ p. p.text) (pieces_of t)
 
--- a label is over the sets
+-- a label at the root is over the sets
 abbrev pub IsRootOver : {V : Type 0} → List TapeSet → Term V → Type 0
-IsRootOver sets (Atom a) = IsOverSets sets a
-IsRootOver sets t = ⊤
+IsRootOver sets t = HasRootLabel (IsOverSets sets) t

@@ -9,3 +9,16 @@ pub mod Words
 pub mod WordParts
 pub mod WordAnswers
 pub mod Writing
+pub mod Steps
+pub mod Making
+pub mod Places
+pub mod Readings
+pub mod Occurring
+pub mod Building
+pub mod TextAnswers
+pub mod Views
+pub mod Flat
+pub mod Depths
+pub mod LabelAnswers
+pub mod BuildAnswers
+pub mod Series

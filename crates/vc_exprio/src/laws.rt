@@ -1,16 +1,22 @@
 //! What texts of expressions mean.
-ghost use Rattle.std.specs.Prelude.{◌≡◌, ℕ, Bool, List, Some, Option};
+ghost use Rattle.std.specs.Prelude.{◌≡◌, ◌∷◌, [], ℕ, Bool, List, Ok, Some, Option};
 ghost use Rattle.vc_expr.specs.Facts.{HasRootValues};
 ghost use Rattle.vc_terms.specs.Forms.{Everywhere, IsBuilt};
+ghost use Rattle.vc_exprio.specs.Building.{building};
 ghost use Rattle.vc_exprio.specs.Canonical.{expression_text, IsRootOver};
+ghost use Rattle.vc_exprio.specs.Depths.{depths_by};
 ghost use Rattle.vc_exprio.specs.Fronts.{IsFaultAt};
 ghost use Rattle.vc_exprio.specs.Grammar.{SpellsTree};
 ghost use Rattle.vc_exprio.specs.Machine.{tree_of, fault_place};
+ghost use Rattle.vc_exprio.specs.Making.{made_by, occurrences_in, put_behind};
+ghost use Rattle.vc_exprio.specs.Meaning.{depth, occurrences, term_of};
+ghost use Rattle.vc_exprio.specs.Steps.{steps_of};
 ghost use Rattle.vc_lex.specs.Marks.{Mark};
 ghost use Rattle.vc_exprio.specs.Spelling.{SpellsText, SpellsBuilt};
 ghost use Rattle.vc_exprio.specs.Trees.{Tree};
 ghost use Rattle.vc_label.specs.declared.tape_set.TapeSet.{TapeSet};
 ghost use Rattle.vc_model.specs.Lists.{IsEqualityTest};
+ghost use Rattle.vc_terms.specs.Identities.{built_of};
 ghost use Rattle.vc_terms.specs.Terms.{Term};
 ghost use Rattle.vc_model.specs.WeightSet.{WeightSet, SemiringLaws};
 ghost use Rattle.vc_ring.specs.Texts.{TextLaws};
@@ -49,3 +55,15 @@ pub fn canonical_texts_are_read<V>()
 {
     words_are_over_sets();
 }
+
+/// Going over the steps of a tree, with one call of the store for each step on what the last calls made, builds what is
+/// built of the tree, or refuses as its building does; and what is built is the built expression. The steps have the
+/// labels and classes of the tree in order, and lead to its depth.
+pub fn steps_make_expressions<V>()
+    ensures made { (R : WeightSet V) (same : V → V → Bool) (value : Mark → V) (class_letters : Mark → List ℕ) (t : Tree) (ts : List (Term V))
+        → made_by R same value class_letters ts (steps_of t) ≡ put_behind ts (building R same value class_letters t) }
+    ensures built { (R : WeightSet V) (same : V → V → Bool) (value : Mark → V) (class_letters : Mark → List ℕ) (t : Tree) (u : Term V)
+        → building R same value class_letters t ≡ Ok u → u ≡ built_of R same (term_of value class_letters t) }
+    ensures labels { (t : Tree) → occurrences_in (steps_of t) ≡ occurrences t }
+    ensures depth { (t : Tree) → depths_by [] (steps_of t) ≡ depth t ∷ [] }
+{}

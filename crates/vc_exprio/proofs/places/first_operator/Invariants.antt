@@ -1,0 +1,8 @@
+use Rattle.std.proofs.Common.{◌≡◌, map, drop}
+use Rattle.vc_exprio.specs.Places.{first_place, is_operator}
+use Rattle.vc_lex.specs.Views.{seen}
+use Rattle.vc_exprio.proofs.places.first_operator.Given as goal
+
+-- the first one is behind those so far
+abbrev pub invariant-loop-token : goal.invariant-loop-token
+invariant-loop-token l = first_place is_operator (map seen (drop l.token-index l.tokens)) ≡ first_place is_operator (map seen l.tokens)
