@@ -26,7 +26,7 @@ use Rattle.vc_top.specs.Views.{reason_of_words}
 use Rattle.vc_top.specs.declared.refusal.Bound.TheVariants.{Of, Words}
 use Rattle.vc_top.specs.declared.status.Status.{Status}
 use Rattle.vc_top.specs.declared.status.Status.TheVariants as status
-use Rattle.vc_top.proofs.Commands.{IsLawfulPlan, IsTextReason}
+use Rattle.vc_top.proofs.Commands.{IsLawfulPlan, IsTextReason, IsWordReason}
 use Rattle.vc_top.proofs.Lawful.{IsKept}
 
 -- the reasons of a status, where they matter here
@@ -104,9 +104,31 @@ module _ (seen : Seen) where
   text_cause plan order t = tt
   text_cause plan no_memory t = tt
 
+  -- the same of a command on texts, which may be too long
+  texts_cause : (texts : Answer → Type 0) (r : Reason) → IsWordReason r → texts (Err r) → HasCause (of_texts texts) seen r
+  texts_cause texts (limit (Of measure.Bytes)) t p = inr p
+  texts_cause texts usage t p = absurd t
+  texts_cause texts (unread file) t p = absurd t
+  texts_cause texts unwritten t p = absurd t
+  texts_cause texts (syntax spot) t p = tt
+  texts_cause texts (no_label spot) t p = tt
+  texts_cause texts no_star t p = tt
+  texts_cause texts empty_circuit t p = tt
+  texts_cause texts overflow t p = tt
+  texts_cause texts (limit (Of measure.Depth)) t p = tt
+  texts_cause texts (limit (Of measure.States)) t p = tt
+  texts_cause texts (limit (Of measure.Transitions)) t p = tt
+  texts_cause texts (limit (Of measure.Closure)) t p = tt
+  texts_cause texts (limit (Of measure.Cells)) t p = tt
+  texts_cause texts (limit (Of measure.Nodes)) t p = tt
+  texts_cause texts (limit Words) t p = tt
+  texts_cause texts contexts t p = tt
+  texts_cause texts order t p = tt
+  texts_cause texts no_memory t p = tt
+
   bytes_cause : (plan : Plan) (file : Bytes) → In file (files_of plan) → (r : Reason) → ReadsBytes seen file (Err r) → HasCause plan seen r
   bytes_cause plan file i r (inl p) = subst (HasCause plan seen) (sym (same_reason r (unread file) p.0)) (i, p.1)
-  bytes_cause plan file i r (inr (bytes, t, inl p)) = subst (HasCause plan seen) (sym (same_reason r (limit (Of measure.Bytes)) p.1)) (file, i, (bytes, t, p.0))
+  bytes_cause plan file i r (inr (bytes, t, inl p)) = subst (HasCause plan seen) (sym (same_reason r (limit (Of measure.Bytes)) p.1)) (inl (file, i, (bytes, t, p.0)))
   bytes_cause plan file i r (inr (bytes, t, inr p)) = absurd (no_given bytes r p.1)
 
   file_cause : (plan : Plan) (file : Bytes) → In file (files_of plan) → (r : Reason) → ReadsFile seen file (Err r) → HasCause plan seen r
@@ -116,7 +138,7 @@ module _ (seen : Seen) where
   module _ (Open : Type 0) where
     answer_cause : (plan : Plan) → IsLawfulPlan Open plan → (r : Reason) → Answers plan seen (Err r) → HasCause plan seen r
     answer_cause unbuilt l r p = subst (HasCause unbuilt seen) (sym (same_reason r usage p)) tt
-    answer_cause (of_texts texts) l r p = text_cause (of_texts texts) r (l.kept (Err r) p)
+    answer_cause (of_texts texts) l r p = texts_cause texts r (l.kept (Err r) p) p
     answer_cause (of_file file rest) l r (inl p) = subst (HasCause (of_file file rest) seen) (sym (same_reason r p.0 p.2)) (file_cause (of_file file rest) file (inl refl) p.0 p.1)
     answer_cause (of_file file rest) l r (inr p) = text_cause (of_file file rest) r ((l p.0).kept (Err r) p.2)
     answer_cause (of_files first second rest) l r (inl p) = subst (HasCause (of_files first second rest) seen) (sym (same_reason r p.0 p.2)) (file_cause (of_files first second rest) first (inl refl) p.0 p.1)

@@ -1,8 +1,10 @@
 -- The evaluation of a word answers what its steps say.
-use Rattle.std.proofs.Common.{◌≡◌, List, [], ◌∷◌, ◌++◌, ℕ, suc, length, Bool, true, false, Option, None, Some, Ok, Err, refl, sym, ap, ◌∙◌, inl, inr, subst}
-use Rattle.std.specs.Prelude.{String, string_bytes}
+use Rattle.std.proofs.Common.{◌≡◌, List, [], ◌∷◌, ◌++◌, ℕ, suc, length, Bool, true, false, Option, None, Some, Result, Ok, Err, refl, sym, ap, ◌∙◌, inl, inr, subst}
+use Rattle.std.specs.Prelude.{String, string_bytes, if◌then◌else◌}
 use Rattle.std.specs.Global.{Global}
 use Rattle.vc_aut.specs.Labelled.{Labelled}
+use Rattle.vc_aut.specs.EmptyLabels.{HasEmptyLabel}
+use Rattle.vc_eval.specs.Cells.{IsTupleAnswer, cells, cells_refusal, refusal_of, tuple_cells, tuple_refusal}
 use Rattle.vc_eval.specs.Forward.{forward_steps}
 use Rattle.vc_files.specs.Files.{Bytes}
 use Rattle.vc_exprio.specs.Words.{IsOverAlphabets}
@@ -13,13 +15,14 @@ use Rattle.vc_model.specs.WeightSet.{WeightSet}
 use Rattle.vc_model.specs.Words.{Word}
 use Rattle.vc_ring.specs.Steps.{AllFit, fits}
 use Rattle.vc_ring.specs.declared.faults.MakeFault.{MakeFault}
+use Rattle.vc_ring.specs.declared.faults.MakeFault.TheVariants as fault
 use Rattle.vc_ring.specs.declared.faults.Overflow.{Overflow}
 use Rattle.vc_ring.specs.Texts.{WeightTexts}
-use Rattle.vc_top.specs.Evaluations.{AnswersEvalOver, AnswersSteps, AnswersWord, HasUnfitStep, ReadsWord, are_letters}
-use Rattle.vc_top.specs.Outcomes.{Answer, Outcome, OrMemory, Then}
-use Rattle.vc_top.specs.Reasons.{Reason, contexts}
-use Rattle.vc_top.specs.Refused.{UnlessCause}
-use Rattle.vc_top.proofs.Outcomes.{provided, then_given, then_refused, unprovided, wider}
+use Rattle.vc_top.specs.Evaluations.{AnswersEvalOver, AnswersSteps, AnswersWord, HasUnfitStep, IsCoefficient, ReadsProper, ReadsWord, is_one}
+use Rattle.vc_top.specs.Outcomes.{Answer, Gives, Outcome, OrMemory, Unless}
+use Rattle.vc_top.specs.Reasons.{Reason, contexts, overflow}
+use Rattle.vc_top.specs.Refused.{UnlessCause, make_reason}
+use Rattle.vc_top.proofs.Outcomes.{then_given, then_refused, wider}
 
 no_unfit : {V : Type 0} (R : WeightSet V) (steps : List (Overflow V)) → AllFit R steps → ¬ HasUnfitStep R steps
 no_unfit R [] a u = absurd u.1
@@ -31,11 +34,6 @@ no_unfit R (s ∷ steps) a u = go (λ i. no_unfit R steps a.1 (u.0, i, u.2)) u.1
     go : (In u.0 steps → ⊥) → In u.0 (s ∷ steps) → ⊥
     go f (inl e) = both a.0 (sym (ap (fits R) e) ∙ u.2)
     go f (inr i) = f i
-
--- a coefficient and its steps, at equal words
-pub value_at : {V : Type 0} (R : WeightSet V) (v : V) (A : Automaton V) (u w : Word) → u ≡ w
-    → (v ≡ coefficient R A u) × AllFit R (forward_steps R A u) → (v ≡ coefficient R A w) × AllFit R (forward_steps R A w)
-value_at {V} R v A u w f p = subst (λ x. (v ≡ coefficient R A x) × AllFit R (forward_steps R A x)) f p
 
 -- what is made, and what comes after
 pub cause_given : {V : Type 0} (cause : Option (MakeFault V)) (R : Outcome Bytes) (a : Answer) → cause ≡ None → OrMemory R a → OrMemory (UnlessCause cause R) a
@@ -57,16 +55,50 @@ module _ {V : Type 0} (T : WeightTexts V) where
       → string_bytes text ≡ T.canonical v ++ 10 ∷ [] → OrMemory (AnswersSteps T A w) (Ok (string_bytes text))
   steps_answered A w v text e f k = inr (inr (no_unfit T.set (forward_steps T.set A w) f, ap Ok (k ∙ ap (λ x. T.canonical x ++ 10 ∷ []) e)))
 
+  -- the answer for a coefficient, and for why there is none
+  pub coefficient_answered : (cause : Option (MakeFault V)) (A : Automaton V) (w : Word) (v : V) (text : String Global) → IsCoefficient T.set cause A w (Ok v)
+      → string_bytes text ≡ T.canonical v ++ 10 ∷ [] → OrMemory (UnlessCause cause (AnswersSteps T A w)) (Ok (string_bytes text))
+  coefficient_answered cause A w v text p e = cause_given cause (AnswersSteps T A w) (Ok (string_bytes text)) p.0 (steps_answered A w v text p.1.0 p.1.1 e)
+
+  pub coefficient_refused : (cause : Option (MakeFault V)) (A : Automaton V) (w : Word) (f : MakeFault V) → IsCoefficient T.set cause A w (Err f) → OrMemory (UnlessCause cause (AnswersSteps T A w)) (Err (make_reason f))
+  coefficient_refused cause A w (fault.Overflow step) p = cause_given cause (AnswersSteps T A w) (Err overflow) p.0 (inr (inl ((step, p.1.0, p.1.1), refl)))
+  coefficient_refused cause A w (fault.Limit l) p = inr (inl (fault.Limit l, p, refl))
+  coefficient_refused cause A w (fault.Memory e) p = inl refl
+
+  -- that of a tuple of words
+  pub tuple_coefficient : (A : Automaton V) (w : Word) (r : Result V (MakeFault V)) → IsTupleAnswer T.set A w r → IsCoefficient T.set (tuple_refusal A w) A w r
+  tuple_coefficient A w (Ok v) p = p
+  tuple_coefficient A w (Err (fault.Overflow step)) p = p
+  tuple_coefficient A w (Err (fault.Limit l)) p = p
+  tuple_coefficient A w (Err (fault.Memory e)) p = tt
+
+  -- the rows of one tape, and of several
+  pub one_answered : (a : Labelled V) (w : Word) (b : Answer) → is_one a.sets ≡ true → OrMemory (UnlessCause (cells_refusal a.automaton) (AnswersSteps T a.automaton w)) b → OrMemory (AnswersWord T a w) b
+  one_answered a w b e p = subst (λ t. OrMemory (UnlessCause {V = V} (refusal_of (if t then cells a.automaton else tuple_cells a.automaton w)) (AnswersSteps T a.automaton w)) b) (sym e) p
+
+  pub several_answered : (a : Labelled V) (w : Word) (b : Answer) → is_one a.sets ≡ false → OrMemory (UnlessCause (tuple_refusal a.automaton w) (AnswersSteps T a.automaton w)) b → OrMemory (AnswersWord T a w) b
+  several_answered a w b e p = subst (λ t. OrMemory (UnlessCause {V = V} (refusal_of (if t then cells a.automaton else tuple_cells a.automaton w)) (AnswersSteps T a.automaton w)) b) (sym e) p
+
   -- the answer for the word of a text
-  pub word_answered : (a : Labelled V) (text : List ℕ) (w : Word) (b : Answer) → are_letters a.sets ≡ true → OrMemory (ReadsWord a.sets text) (Ok w) → OrMemory (AnswersWord T a.automaton w) b → OrMemory (AnswersEvalOver T text a) b
-  word_answered a text w b l r p =
-      provided (are_letters a.sets) contexts (Then (ReadsWord a.sets text) (AnswersWord T a.automaton)) b (sym l) (then_given (ReadsWord a.sets text) (AnswersWord T a.automaton) w b r p)
+  pub word_answered : (a : Labelled V) (text : Bytes) (w : Word) (b : Answer) → OrMemory (ReadsProper a text) (Ok w) → OrMemory (AnswersWord T a w) b → OrMemory (AnswersEvalOver T text a) b
+  word_answered a text w b r p = then_given (ReadsProper a text) (AnswersWord T a) w b r p
 
-  -- the text has no word over the labels
-  pub no_word : (a : Labelled V) (text : List ℕ) (reason : Reason) → are_letters a.sets ≡ true → OrMemory (ReadsWord a.sets text) (Err reason) → OrMemory (AnswersEvalOver T text a) (Err reason)
-  no_word a text reason l r =
-      provided (are_letters a.sets) contexts (Then (ReadsWord a.sets text) (AnswersWord T a.automaton)) (Err reason) (sym l) (then_refused (ReadsWord a.sets text) (AnswersWord T a.automaton) reason r)
+  pub word_refused : (a : Labelled V) (text : Bytes) (reason : Reason) → OrMemory (ReadsProper a text) (Err reason) → OrMemory (AnswersEvalOver T text a) (Err reason)
+  word_refused a text reason r = then_refused (ReadsProper a text) (AnswersWord T a) reason r
 
-  -- the labels are no letters
-  pub no_letters : (a : Labelled V) (text : List ℕ) → are_letters a.sets ≡ false → OrMemory (AnswersEvalOver T text a) (Err contexts)
-  no_letters a text l = unprovided (are_letters a.sets) contexts (Then (ReadsWord a.sets text) (AnswersWord T a.automaton)) (sym l)
+-- the word of a text, over an automaton without empty labels, and with one
+module _ {V : Type 0} (a : Labelled V) (text : Bytes) where
+  pub proper_read : (w : Word) → OrMemory (ReadsWord a.sets text) (Ok w) → ¬ HasEmptyLabel a.automaton → OrMemory (ReadsProper a text) (Ok w)
+  proper_read w r n = then_given (ReadsWord a.sets text) (λ v. Unless (HasEmptyLabel a.automaton) contexts (Gives v)) w (Ok w) r (inr (inr (n, refl)))
+
+  pub proper_not : (w : Word) → OrMemory (ReadsWord a.sets text) (Ok w) → HasEmptyLabel a.automaton → OrMemory (ReadsProper a text) (Err contexts)
+  proper_not w r h = then_given (ReadsWord a.sets text) (λ v. Unless (HasEmptyLabel a.automaton) contexts (Gives v)) w (Err contexts) r (inr (inl (h, refl)))
+
+  pub no_word : (reason : Reason) → OrMemory (ReadsWord a.sets text) (Err reason) → OrMemory (ReadsProper a text) (Err reason)
+  no_word reason r = then_refused (ReadsWord a.sets text) (λ v. Unless (HasEmptyLabel a.automaton) contexts (Gives v)) reason r
+
+-- so many tapes
+pub one_tape : (sets : List TapeSet) → is_one sets ≡ true → length sets ≡ 1
+one_tape [] e = absurd (cc e)
+one_tape (s ∷ []) e = refl
+one_tape (s ∷ t ∷ sets) e = absurd (cc e)

@@ -3,6 +3,7 @@ pub mod Headed
 pub mod LinesRead
 pub mod Evaluated
 pub mod Printed
+pub mod Expressed
 pub mod Failed
 pub mod Planned
 pub mod Lawful

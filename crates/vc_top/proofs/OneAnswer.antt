@@ -35,7 +35,7 @@ use Rattle.vc_top.specs.Reasons.{Reason, in_line, limit, no_label, syntax}
 use Rattle.vc_top.specs.Seen.{Seen, seen}
 use Rattle.vc_top.specs.Sets.{texts_of, truth_weights, residue_weights, whole_weights, fraction_weights, tropical_weights}
 use Rattle.vc_top.specs.declared.refusal.Bound.TheVariants.{Of}
-use Rattle.vc_top.proofs.Commands.{IsLawfulPlan, OneWord, plans_are_lawful, texts_are}
+use Rattle.vc_top.proofs.Commands.{IsLawfulPlan, OneAnswer, OneWord, plans_are_lawful, texts_are}
 use Rattle.vc_top.proofs.Lawful.{Alike, IsKept, IsLawful, after, any, for_such, gives, unless, with_one}
 use Rattle.vc_top.proofs.Parts.{AgreeBy, after_part, of_part}
 
@@ -103,6 +103,7 @@ module _
     (read : (line text : Bytes) → IsContextLine line text → context_in_line line ≡ Some text)
     (contexts : (text : Bytes) (sets others : List TapeSet) (weights other : Weights) → SpellsContext text sets weights → SpellsContext text others other → (sets ≡ others) × (weights ≡ other))
     (words : OneWord)
+    (truth_texts : OneAnswer Bool) (whole_texts : OneAnswer ℤ) (fraction_texts : OneAnswer Fraction) (cost_texts : OneAnswer NminValue)
     (truths : OneAutomaton Bool) (wholes : OneAutomaton ℤ) (fractions : OneAutomaton Fraction) (costs : OneAutomaton NminValue)
     (truths_apart : AreApart Bool) (wholes_apart : AreApart ℤ) (fractions_apart : AreApart Fraction) (costs_apart : AreApart NminValue) where
   one_head : (bytes : Bytes) (f g : Headed) → HasContext bytes f → HasContext bytes g → f ≡ g
@@ -156,4 +157,4 @@ module _
     pub determined : (request : Option Asked) (a b : Answer) → Allows request s a → Allows request s b → Agree request s a b
     determined request a b (inl m) q = inl (inl (subst IsFree (sym m) tt))
     determined request a b p (inl m) = inl (inr (subst IsFree (sym m) tt))
-    determined request a b (inr p) (inr q) = answers (IsOpen request) (plan_of request) (plans_are_lawful (texts_are contexts words) request) a b p q
+    determined request a b (inr p) (inr q) = answers (IsOpen request) (plan_of request) (plans_are_lawful (texts_are contexts words truth_texts whole_texts fraction_texts cost_texts) request) a b p q

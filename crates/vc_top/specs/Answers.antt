@@ -23,13 +23,18 @@ IsUsage request = IsUnbuilt (plan_of request)
 abbrev pub names_of : Option Asked → List Bytes
 names_of request = files_of (plan_of request)
 
+-- a text among the words has too many bytes, and is refused for that
+abbrev pub HasLongText : Plan → Type 0
+HasLongText (of_texts texts) = texts (Err (limit (Of BytesOf)))
+HasLongText plan = ⊥
+
 -- what stands where a request is refused for this: it is `usage` for a request that is not built, a file is unread whose reading has failed, and
--- the limit of bytes is passed by the bytes of a file; this reason is none for which an answer is not written
+-- the limit of bytes is passed by the bytes of a file, or by a text; this reason is none for which an answer is not written
 abbrev pub HasCause : Plan → Seen → Reason → Type 0
 HasCause plan seen usage = IsUnbuilt plan
 HasCause plan seen (unread file) = In file (files_of plan) × HasFailed seen file
 HasCause plan seen unwritten = ⊥
-HasCause plan seen (limit (Of BytesOf)) = (file : Bytes) × In file (files_of plan) × Reads seen file (λ bytes. most_bytes < length bytes)
+HasCause plan seen (limit (Of BytesOf)) = ((file : Bytes) × In file (files_of plan) × Reads seen file (λ bytes. most_bytes < length bytes)) ⊎ HasLongText plan
 HasCause plan seen other = ⊤
 
 -- what the files tell does not determine want of memory, and that a file was not read
@@ -38,7 +43,7 @@ IsFreeReason no_memory = ⊤
 IsFreeReason (unread file) = ⊤
 IsFreeReason other = ⊥
 
--- a number does not fit, a limit is passed, or a circuit has no weight; a file has too many bytes before anything else of it is known
+-- a number does not fit, a limit is passed, or a circuit has no weight; a file or a text has too many bytes before anything else of it is known
 abbrev pub IsPastReason : Reason → Type 0
 IsPastReason overflow = ⊤
 IsPastReason (limit (Of BytesOf)) = ⊥

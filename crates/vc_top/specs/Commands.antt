@@ -4,6 +4,7 @@ use Rattle.vc_files.specs.Files.{Bytes}
 use Rattle.vc_top.specs.Automata.{AnswersCat}
 use Rattle.vc_top.specs.Contexts.{AnswersContext}
 use Rattle.vc_top.specs.Evaluations.{AnswersEval}
+use Rattle.vc_top.specs.Expressions.{AnswersExpr}
 use Rattle.vc_top.specs.Inputs.{Input}
 use Rattle.vc_top.specs.Outcomes.{Answer, Outcome}
 use Rattle.vc_top.specs.Plans.{Plan, of_file, of_texts, unbuilt}
@@ -13,12 +14,13 @@ use Rattle.vc_top.specs.declared.plan.FileCommand.TheVariants.{Cat, Eval}
 use Rattle.vc_top.specs.declared.plan.Plan.{Plan as Code}
 use Rattle.vc_top.specs.declared.plan.Plan.TheVariants.{Texts, File}
 use Rattle.vc_top.specs.declared.plan.TextCommand.{TextCommand}
-use Rattle.vc_top.specs.declared.plan.TextCommand.TheVariants.{Unbuilt, Context}
+use Rattle.vc_top.specs.declared.plan.TextCommand.TheVariants.{Unbuilt, Context, Expr}
 
 -- a command that reads no file; one that is not built is `Usage`
 abbrev pub AnswersTexts : TextCommand → Outcome Bytes
 AnswersTexts Unbuilt answer = answer ≡ Err usage
 AnswersTexts (Context text) answer = AnswersContext text.now answer
+AnswersTexts (Expr over text) answer = AnswersExpr over.now text.now answer
 
 -- a command, to the automaton of its file
 abbrev pub AnswersFile : FileCommand → Input → Outcome Bytes

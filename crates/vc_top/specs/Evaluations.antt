@@ -1,23 +1,24 @@
 -- What the evaluation of a word in an automaton answers, in the order of refusals.
-use Rattle.std.specs.Prelude.{◌≡◌, List, [], ◌∷◌, ◌++◌, Bool, true, false}
+use Rattle.std.specs.Prelude.{◌≡◌, ℕ, List, [], ◌∷◌, ◌++◌, Bool, true, false, Option, None, Some, Result, Ok, Err, if◌then◌else◌, ⊤}
+use Rattle.vc_aut.specs.EmptyLabels.{HasEmptyLabel}
 use Rattle.vc_aut.specs.Labelled.{Labelled}
-use Rattle.vc_eval.specs.Cells.{cells_refusal}
+use Rattle.vc_eval.specs.Cells.{cells, refusal_of, tuple_cells}
 use Rattle.vc_eval.specs.Forward.{forward_steps}
 use Rattle.vc_exprio.specs.Words.{IsOverAlphabets, SpellsWord}
 use Rattle.vc_files.specs.Files.{Bytes}
-use Rattle.vc_label.specs.declared.tape_set.TapeKind.{TapeKind}
-use Rattle.vc_label.specs.declared.tape_set.TapeKind.TheVariants.{Letters, Nullable, Words}
 use Rattle.vc_label.specs.declared.tape_set.TapeSet.{TapeSet}
 use Rattle.vc_model.specs.Automata.{Automaton, coefficient}
 use Rattle.vc_model.specs.Lists.{In}
 use Rattle.vc_model.specs.WeightSet.{WeightSet}
 use Rattle.vc_model.specs.Words.{Word}
-use Rattle.vc_ring.specs.Steps.{fits}
+use Rattle.vc_ring.specs.Steps.{fits, IsOutcome}
+use Rattle.vc_ring.specs.declared.faults.MakeFault.{MakeFault}
+use Rattle.vc_ring.specs.declared.faults.MakeFault.TheVariants as fault
 use Rattle.vc_ring.specs.declared.faults.Overflow.{Overflow}
 use Rattle.vc_ring.specs.Texts.{WeightTexts}
 use Rattle.vc_top.specs.Reasons.{contexts, in_word, no_label, overflow, syntax}
 use Rattle.vc_top.specs.Inputs.{Input}
-use Rattle.vc_top.specs.Outcomes.{Gives, Outcome, Provided, Then, Unless, WithOne}
+use Rattle.vc_top.specs.Outcomes.{Gives, Outcome, Then, Unless, WithOne}
 use Rattle.vc_top.specs.Refused.{UnlessCause}
 use Rattle.vc_top.specs.Sets.{texts_of}
 
@@ -25,20 +26,30 @@ use Rattle.vc_top.specs.Sets.{texts_of}
 abbrev pub HasUnfitStep : {V : Type 0} → WeightSet V → List (Overflow V) → Type 0
 HasUnfitStep {V} R steps = (s : Overflow V) × In s steps × (fits R s ≡ false)
 
--- labels are single letters: they have one tape, and on it one letter
-abbrev pub is_letters : TapeKind → Bool
-is_letters Letters = true
-is_letters Nullable = false
-is_letters Words = false
+-- there is one tape
+abbrev pub is_one : List TapeSet → Bool
+is_one [] = false
+is_one (s ∷ []) = true
+is_one (s ∷ t ∷ sets) = false
 
-abbrev pub are_letters : List TapeSet → Bool
-are_letters [] = false
-are_letters (s ∷ []) = is_letters s.kind
-are_letters (s ∷ t ∷ sets) = false
+-- the entries of the rows: on one tape some rows are kept, on several a row for each position
+abbrev pub cells_of : {V : Type 0} → List TapeSet → Automaton V → Word → ℕ
+cells_of sets automaton word = if is_one sets then cells automaton else tuple_cells automaton word
 
 -- the word of a text: `Syntax` where the text spells none, `NotALabel` where it has other tapes than the labels, or a letter that is not in the alphabet of its tape
 abbrev pub ReadsWord : List TapeSet → Bytes → Outcome Word
 ReadsWord sets text = WithOne (SpellsWord text) (syntax in_word) (λ word. Unless (¬ IsOverAlphabets sets word) (no_label in_word) (Gives word))
+
+-- the same, where no transition has an empty label; else the contexts do not fit
+abbrev pub ReadsProper : {V : Type 0} → Labelled V → Bytes → Outcome Word
+ReadsProper a text = Then (ReadsWord a.sets text) (λ word. Unless (HasEmptyLabel a.automaton) contexts (Gives word))
+
+-- the coefficient at a word by forward rows, or why there is none, where the rows are refused for this cause
+abbrev pub IsCoefficient : {V : Type 0} → WeightSet V → Option (MakeFault V) → Automaton V → Word → Result V (MakeFault V) → Type 0
+IsCoefficient R cause automaton word (Ok v) = (cause ≡ None) × IsOutcome R (forward_steps R automaton word) (coefficient R automaton word) (Ok v)
+IsCoefficient R cause automaton word (Err (fault.Overflow step)) = (cause ≡ None) × IsOutcome R (forward_steps R automaton word) (coefficient R automaton word) (Err step)
+IsCoefficient R cause automaton word (Err (fault.Limit l)) = cause ≡ Some (fault.Limit l)
+IsCoefficient R cause automaton word (Err (fault.Memory e)) = ⊤
 
 module _ {V : Type 0} (T : WeightTexts V) where
   -- the text of the coefficient at the word, and a line feed
@@ -50,12 +61,11 @@ module _ {V : Type 0} (T : WeightTexts V) where
   AnswersSteps automaton word = Unless (HasUnfitStep T.set (forward_steps T.set automaton word)) overflow (Gives (coefficient_line automaton word))
 
   -- `Limit` where the rows have too many cells
-  abbrev pub AnswersWord : Automaton V → Word → Outcome Bytes
-  AnswersWord automaton word = UnlessCause (cells_refusal automaton) (AnswersSteps automaton word)
+  abbrev pub AnswersWord : Labelled V → Word → Outcome Bytes
+  AnswersWord a word = UnlessCause {V = V} (refusal_of (cells_of a.sets a.automaton word)) (AnswersSteps a.automaton word)
 
-  -- `Mismatch` where labels are not letters
   abbrev pub AnswersEvalOver : Bytes → Labelled V → Outcome Bytes
-  AnswersEvalOver text a = Provided (are_letters a.sets) contexts (Then (ReadsWord a.sets text) (AnswersWord a.automaton))
+  AnswersEvalOver text a = Then (ReadsProper a text) (AnswersWord a)
 
 -- the same for the automaton of a file
 abbrev pub AnswersEval : Bytes → Input → Outcome Bytes

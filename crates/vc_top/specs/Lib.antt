@@ -7,6 +7,7 @@ pub mod Refused
 pub mod Contexts
 pub mod Inputs
 pub mod Evaluations
+pub mod Expressions
 pub mod Automata
 pub mod Plans
 pub mod Answers

@@ -1,10 +1,11 @@
 -- What each request wants: a line for each command.
 use Rattle.std.specs.Prelude.{◌≡◌, List, [], ◌∷◌, Option, Some, Err, ⊤}
-use Rattle.vc_command.specs.Requests.{Asked, context, cat, eval_file}
+use Rattle.vc_command.specs.Requests.{Asked, context, expr, cat, eval_file}
 use Rattle.vc_files.specs.Files.{Bytes}
 use Rattle.vc_top.specs.Automata.{AnswersCat}
 use Rattle.vc_top.specs.Contexts.{AnswersContext}
 use Rattle.vc_top.specs.Evaluations.{AnswersEval}
+use Rattle.vc_top.specs.Expressions.{AnswersExpr}
 use Rattle.vc_top.specs.Inputs.{Input, ReadsFile}
 use Rattle.vc_top.specs.Outcomes.{Outcome, Then}
 use Rattle.vc_top.specs.Reasons.{usage}
@@ -19,6 +20,7 @@ pub data Plan : Type 1 where
 
 abbrev pub plan_of : Option Asked → Plan
 plan_of (Some (context text)) = of_texts (AnswersContext text)
+plan_of (Some (expr over text)) = of_texts (AnswersExpr over text)
 plan_of (Some (cat file)) = of_file file AnswersCat
 plan_of (Some (eval_file file word)) = of_file file (AnswersEval word)
 plan_of other = unbuilt

@@ -9,10 +9,12 @@ use Rattle.vc_reader.specs.declared.fault.DautFault.{DautFault}
 use Rattle.vc_reader.specs.declared.fault.DautFault.TheVariants as fault
 use Rattle.vc_lines.specs.declared.fault.HeadFault.{HeadFault}
 use Rattle.vc_lines.specs.declared.fault.HeadFault.TheVariants as head
+use Rattle.vc_exprio.specs.declared.fault.TextFault.{TextFault}
+use Rattle.vc_exprio.specs.declared.fault.TextFault.TheVariants as text
 use Rattle.vc_files.specs.Files.{Bytes}
 use Rattle.vc_top.specs.Inputs.{Input}
 use Rattle.vc_top.specs.Outcomes.{Answer}
-use Rattle.vc_top.specs.Reasons.{Reason, in_line, limit, no_label, no_memory, overflow, reason_of, syntax, usage}
+use Rattle.vc_top.specs.Reasons.{Reason, contexts, in_expression, in_line, limit, no_label, no_memory, no_star, overflow, reason_of, syntax, usage}
 use Rattle.vc_top.specs.declared.input.AnyInput.{AnyInput}
 use Rattle.vc_top.specs.declared.input.AnyInput.TheVariants as input
 use Rattle.vc_top.specs.declared.input.AnyOf.{AnyOf}
@@ -65,3 +67,14 @@ fault_reason file (fault.NotALabel line from to) = no_label (in_line file line)
 fault_reason file (fault.Overflow line step) = overflow
 fault_reason file (fault.Limit l) = limit (Of l.what)
 fault_reason file (fault.Memory e) = no_memory
+
+-- the reason for which the text of an expression is refused
+abbrev pub text_fault_reason : {V : Type 0} → TextFault V → Reason
+text_fault_reason (text.Limit l) = limit (Of l.what)
+text_fault_reason (text.BadByte at) = syntax (in_expression at)
+text_fault_reason (text.NotAnExpression at) = syntax (in_expression at)
+text_fault_reason (text.NotALabel at) = no_label (in_expression at)
+text_fault_reason (text.NotInContext at) = contexts
+text_fault_reason (text.InvalidStar operand constant) = no_star
+text_fault_reason (text.Overflow step) = overflow
+text_fault_reason (text.Memory e) = no_memory

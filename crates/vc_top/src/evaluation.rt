@@ -1,17 +1,25 @@
-ghost use Rattle.std.specs.Prelude.{◌≡◌, ◌++◌, ◌∷◌, [], IfOk, IsTrue, length, string_bytes, true};
+//! The coefficient of an automaton at a word.
+ghost use Rattle.std.specs.Prelude.{◌≡◌, ◌++◌, ◌∷◌, [], false, IfOk, IsTrue, length, None, Option, Some, string_bytes, true};
+ghost use Rattle.vc_eval.specs.Cells.{cells_refusal, tuple_refusal};
 ghost use Rattle.vc_label.specs.Borrowed.{word_of};
-ghost use Rattle.vc_top.specs.Evaluations.{AnswersEval, AnswersEvalOver, AnswersSteps, AnswersWord, are_letters as has_letters};
+ghost use Rattle.vc_model.specs.Automata.{Automaton as Graph};
+ghost use Rattle.vc_model.specs.Words.{Word as Letters};
+ghost use Rattle.vc_ring.specs.declared.faults.MakeFault.{MakeFault as Cause};
+ghost use Rattle.vc_top.specs.Evaluations.{AnswersEval, AnswersEvalOver, AnswersSteps, IsCoefficient, ReadsProper, is_one};
 ghost use Rattle.vc_top.specs.Outcomes.{OrMemory};
-ghost use Rattle.vc_top.specs.Views.{answer_of, input_of, labelled_of};
+ghost use Rattle.vc_top.specs.Refused.{UnlessCause};
+ghost use Rattle.vc_top.specs.Views.{answer_of, input_of, labelled_of, seen_by};
 
 use crate::input::{AnyInput, AnyOf};
 use crate::refusal::{Refusal, made_not};
 use crate::word::word_over;
 use std::alloc::{AllocError, Global};
-use vc_aut::Automaton;
-use vc_eval::{Evaluator, letters_are_labels};
-use vc_label::{LabelSet, TapeKind, Word};
-use vc_ring::{Semiring, Weighed};
+use vc_aut::{Automaton, Proper};
+use vc_context::labels_have_tapes;
+use vc_eval::{Evaluator, eval_tuple};
+use vc_label::{LabelSet, Word, WordBuf};
+use vc_ring::{MakeFault, Semiring, Weighed};
+use vc_tuple::Tuple;
 
 /// The text of a weight, and a line feed.
 fn line_of<S: Semiring>(alloc: Global, weight: S::Value) -> Result<String, AllocError>
@@ -24,62 +32,94 @@ fn line_of<S: Semiring>(alloc: Global, weight: S::Value) -> Result<String, Alloc
     Ok(text)
 }
 
-/// The text of the coefficient at a word.
-fn evaluate<'w, L: LabelSet, S: Semiring>(
+/// The answer for a coefficient, or for why there is none.
+fn answer_with<'w, S: Semiring>(
     alloc: Global,
-    mut evaluator: Evaluator<'_, L, S>,
-    word: Word<'_>,
+    coefficient: Result<S::Value, MakeFault<S::Value>>,
 ) -> Result<String, Refusal<'w>>
-    requires { length (word_of word) ≡ 1 }
-    ensures { OrMemory (AnswersSteps ⟦<S as Weighed>⟧.texts evaluator.entry.automaton (word_of word.entry)) (answer_of result) }
+    requires { IfOk coefficient (λ v. IsTrue (S.set.in_range v)) }
+    ensures { (cause : Option (Cause S.Value)) (automaton : Graph S.Value) (word : Letters) → IsCoefficient S.set cause automaton word coefficient
+        → OrMemory (UnlessCause cause (AnswersSteps ⟦<S as Weighed>⟧.texts automaton word)) (answer_of result) }
 {
-    let coefficient = match evaluator.eval(word) {
-        Ok(coefficient) => coefficient,
-        Err(_) => return Err(Refusal::Overflow),
+    let weight = match coefficient {
+        Ok(weight) => weight,
+        Err(fault) => return Err(made_not(fault)),
     };
-    match line_of::<S>(alloc, coefficient) {
+    match line_of::<S>(alloc, weight) {
         Ok(text) => Ok(text),
         Err(_) => Err(Refusal::Memory),
     }
 }
 
-/// The answer for a word, over an automaton whose labels are letters.
-fn answer_word<'w, L: LabelSet, S: Semiring>(
+/// The coefficient of an automaton of one tape at a word.
+fn eval_one_tape<L: LabelSet, S: Semiring>(
     alloc: Global,
-    automaton: &Automaton<L, S>,
+    automaton: &Proper<L, S>,
     word: Word<'_>,
-) -> Result<String, Refusal<'w>>
-    requires letters { has_letters automaton.now.sets ≡ true }
+) -> Result<S::Value, MakeFault<S::Value>>
+    requires sets { length automaton.now.sets ≡ 1 }
     requires word { length (word_of word) ≡ 1 }
-    ensures { OrMemory (AnswersWord ⟦<S as Weighed>⟧.texts automaton.now.automaton (word_of word.entry)) (answer_of result) }
+    ensures in_range { IfOk result (λ v. IsTrue (S.set.in_range v)) }
+    ensures answer { IsCoefficient S.set (cells_refusal automaton.now.automaton) automaton.now.automaton (word_of word.entry) result }
 {
-    letters_are_labels(automaton);
-    match Evaluator::new(alloc, automaton) {
-        Ok(evaluator) => evaluate(alloc, evaluator, word),
-        Err(fault) => Err(made_not(fault)),
+    let mut evaluator = match Evaluator::new(alloc, automaton) {
+        Ok(evaluator) => evaluator,
+        Err(fault) => return Err(fault),
+    };
+    match evaluator.eval(word) {
+        Ok(coefficient) => Ok(coefficient),
+        Err(step) => Err(MakeFault::Overflow(step)),
     }
 }
 
-/// Whether labels are letters.
-fn are_letters<L: LabelSet>(labels: &L) -> bool
-    ensures { result ≡ has_letters (L.sets labels.now) }
+/// The word of a text over the labels of an automaton, and the automaton, where none of its transitions has an empty label.
+fn proper_over<'w, L: LabelSet, S: Semiring>(
+    alloc: Global,
+    automaton: Automaton<L, S>,
+    text: &str,
+) -> Result<(WordBuf, Proper<L, S>), Refusal<'w>>
+    ensures read { OrMemory (ReadsProper automaton text.now) (seen_by (λ p. p.0) result) }
+    ensures proper { IfOk result (λ p. p.1 ≡ automaton) }
+    ensures tapes { IfOk result (λ p. length p.0 ≡ length automaton.sets) }
 {
-    labels.tapes() == 1 && matches!(labels.tape(0).kind, TapeKind::Letters)
+    let word = match word_over(alloc, automaton.labels(), text) {
+        Ok(word) => word,
+        Err(refusal) => return Err(refusal),
+    };
+    match automaton.into_proper() {
+        Ok(proper) => Ok((word, proper)),
+        Err(_) => Err(Refusal::Contexts),
+    }
 }
 
-/// The coefficient of an automaton at the word of a text, whose labels are to be letters.
-fn eval_over<'w, L: LabelSet, S: Semiring>(
+/// The coefficient of an automaton of one tape at the word of a text.
+fn eval_one<'w, L: LabelSet, S: Semiring>(
     alloc: Global,
-    automaton: &Automaton<L, S>,
+    automaton: Automaton<L, S>,
     text: &str,
 ) -> Result<String, Refusal<'w>>
-    ensures { OrMemory (AnswersEvalOver ⟦<S as Weighed>⟧.texts text.now automaton.now) (answer_of result) }
+    requires { is_one automaton.sets ≡ true }
+    ensures { OrMemory (AnswersEvalOver ⟦<S as Weighed>⟧.texts text.now automaton) (answer_of result) }
 {
-    if !are_letters(automaton.labels()) {
-        return Err(Refusal::Contexts);
+    match proper_over(alloc, automaton, text) {
+        Ok((word, proper)) => {
+            answer_with::<S>(alloc, eval_one_tape(alloc, &proper, word.word()))
+        }
+        Err(refusal) => Err(refusal),
     }
-    match word_over(alloc, automaton.labels(), text) {
-        Ok(word) => answer_word(alloc, automaton, word.word()),
+}
+
+/// The coefficient of an automaton of several tapes at the word of a text.
+fn eval_several<'w, L: LabelSet, S: Semiring>(
+    alloc: Global,
+    automaton: Automaton<L, S>,
+    text: &str,
+) -> Result<String, Refusal<'w>>
+    requires { is_one automaton.sets ≡ false }
+    ensures { OrMemory (AnswersEvalOver ⟦<S as Weighed>⟧.texts text.now automaton) (answer_of result) }
+{
+    match proper_over(alloc, automaton, text) {
+        Ok((word, proper)) => answer_with::<S>(alloc, eval_tuple(alloc, &proper, word.word())),
         Err(refusal) => Err(refusal),
     }
 }
@@ -87,22 +127,23 @@ fn eval_over<'w, L: LabelSet, S: Semiring>(
 /// The same over any labels.
 fn eval_any<'w, S: Semiring>(
     alloc: Global,
-    automaton: &AnyOf<S>,
+    automaton: AnyOf<S>,
     text: &str,
 ) -> Result<String, Refusal<'w>>
-    ensures { OrMemory (AnswersEvalOver ⟦<S as Weighed>⟧.texts text.now (labelled_of automaton.now)) (answer_of result) }
+    ensures { OrMemory (AnswersEvalOver ⟦<S as Weighed>⟧.texts text.now (labelled_of automaton)) (answer_of result) }
 {
+    labels_have_tapes();
     match automaton {
-        AnyOf::Letters(a) => eval_over(alloc, a, text),
-        AnyOf::Nullable(a) => eval_over(alloc, a, text),
-        AnyOf::Words(a) => eval_over(alloc, a, text),
-        AnyOf::Tuple(a) => eval_over(alloc, a, text),
+        AnyOf::Letters(a) => eval_one(alloc, a, text),
+        AnyOf::Nullable(a) => eval_one(alloc, a, text),
+        AnyOf::Words(a) => eval_one(alloc, a, text),
+        AnyOf::Tuple(a) => eval_several(alloc, a, text),
     }
 }
 
 /// `eval FILE WORD`: the coefficient at the word.
-pub(crate) fn eval<'w>(alloc: Global, input: &AnyInput, text: &str) -> Result<String, Refusal<'w>>
-    ensures { OrMemory (AnswersEval text.now (input_of input.now)) (answer_of result) }
+pub(crate) fn eval<'w>(alloc: Global, input: AnyInput, text: &str) -> Result<String, Refusal<'w>>
+    ensures { OrMemory (AnswersEval text.now (input_of input)) (answer_of result) }
 {
     match input {
         AnyInput::B(a) => eval_any(alloc, a, text),

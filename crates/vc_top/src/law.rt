@@ -10,14 +10,15 @@ use vc_context::contexts_have_texts;
 use vc_daut::{
     context_lines_have_one_text, readings_exclude_each_other, texts_spell_one_automaton,
 };
-use vc_exprio::texts_spell_one_word;
+use vc_exprio::{texts_have_one_answer, texts_spell_one_word};
 use vc_files::names_have_one_file;
 use vc_rat::Fraction;
 
 /// Over files that tell their bytes, a request allows one answer alone, but for faults of reading and want of memory; and
 /// where a number does not fit and a limit is passed in one file, or in what is done with what was read, either may be
 /// answered; and a command whose text is open may print any that it allows. So where the cause of a refusal stands, this
-/// refusal is answered, or one of these. A file that has too many bytes is refused for that alone.
+/// refusal is answered, or one of these. A file or an expression that has too many bytes is refused for
+/// that alone.
 pub fn answers_are_determined()
     ensures { (held : Held) (before after : List Bytes) (request : Option Asked) (a b : Answer)
         → Allows request (seen (Some held) before after) a → Allows request (seen (Some held) before after) b
@@ -26,6 +27,10 @@ pub fn answers_are_determined()
     names_have_one_file();
     contexts_have_texts();
     texts_spell_one_word();
+    texts_have_one_answer::<bool>();
+    texts_have_one_answer::<i128>();
+    texts_have_one_answer::<Fraction>();
+    texts_have_one_answer::<NminValue>();
     context_lines_have_one_text();
     texts_spell_one_automaton::<bool>();
     texts_spell_one_automaton::<i128>();

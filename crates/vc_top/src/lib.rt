@@ -4,6 +4,7 @@
 mod automata;
 mod context;
 mod evaluation;
+mod expression;
 mod input;
 mod law;
 mod message;

@@ -8,6 +8,7 @@ ghost use Rattle.vc_top.specs.Views.{answer_of, input_of};
 use crate::automata::cat;
 use crate::context::context;
 use crate::evaluation::eval;
+use crate::expression::expr;
 use crate::input::AnyInput;
 use crate::refusal::Refusal;
 use std::alloc::Global;
@@ -29,6 +30,8 @@ pub(crate) enum TextCommand<'w> {
     Unbuilt,
     /// `context C`
     Context { text: &'w str },
+    /// `expr C E`
+    Expr { context: &'w str, text: &'w str },
 }
 
 /// A command that reads one file.
@@ -46,6 +49,7 @@ pub(crate) fn plan_of(request: &Request) -> Plan<'_>
 {
     match request {
         Request::Context { text } => Plan::Texts(TextCommand::Context { text }),
+        Request::Expr { context, text } => Plan::Texts(TextCommand::Expr { context, text }),
         Request::Cat { file } => Plan::File(file, FileCommand::Cat),
         Request::EvalFile { file, word } => Plan::File(file, FileCommand::Eval { word }),
         _ => Plan::Texts(TextCommand::Unbuilt),
@@ -59,6 +63,7 @@ pub(crate) fn on_texts<'w>(alloc: Global, command: TextCommand<'w>) -> Result<St
     match command {
         TextCommand::Unbuilt => Err(Refusal::Usage),
         TextCommand::Context { text } => context(alloc, text.as_bytes()),
+        TextCommand::Expr { context, text } => expr(alloc, context.as_bytes(), text),
     }
 }
 
@@ -66,12 +71,12 @@ pub(crate) fn on_texts<'w>(alloc: Global, command: TextCommand<'w>) -> Result<St
 pub(crate) fn on_file<'w>(
     alloc: Global,
     command: FileCommand<'w>,
-    input: &AnyInput,
+    input: AnyInput,
 ) -> Result<String, Refusal<'w>>
-    ensures { OrMemory (AnswersFile command.entry (input_of input.now)) (answer_of result) }
+    ensures { OrMemory (AnswersFile command.entry (input_of input)) (answer_of result) }
 {
     match command {
-        FileCommand::Cat => cat(alloc, input),
+        FileCommand::Cat => cat(alloc, &input),
         FileCommand::Eval { word } => eval(alloc, input, word),
     }
 }

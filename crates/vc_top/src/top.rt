@@ -17,10 +17,12 @@ use crate::plan::{FileCommand, Plan, on_file, on_texts, plan_of};
 use crate::refusal::Refusal;
 use crate::status::Status;
 use std::alloc::Global;
+use vc_basic::NminValue;
 use vc_command::{Request, RequestFault, request_of};
 use vc_context::contexts_have_texts;
-use vc_exprio::texts_spell_one_word;
+use vc_exprio::{texts_have_one_answer, texts_spell_one_word};
 use vc_files::{Files, Sink};
+use vc_rat::Fraction;
 
 /// The answer of a command to the file of this name.
 fn with_file<'w, F: Files>(
@@ -34,7 +36,7 @@ fn with_file<'w, F: Files>(
     ensures answer { OrMemory (Then (ReadsFile (seen (F.held files.old) (F.faults files.old) (F.faults files.new)) file.now) (AnswersFile command.entry)) (answer_of result) }
 {
     match read_input(alloc, files, file) {
-        Ok(input) => on_file(alloc, command, &input),
+        Ok(input) => on_file(alloc, command, input),
         Err(refusal) => Err(refusal),
     }
 }
@@ -95,10 +97,10 @@ pub fn refuse<E: Sink>(fault: RequestFault, err: &mut E) -> Status
 /// Does what the words ask, and answers the status.
 ///
 /// The words are those after the program's name. Files are read from `files`, the answer goes to `out` once it stands
-/// whole, and on a refusal one line goes to `err`. `context C` prints the canonical text of the context, `cat FILE` the
-/// canonical text of the file's automaton, and `eval FILE WORD` the coefficient of the file's automaton at the word
-/// (Sakarovitch, Elements of Automata Theory), each with a line feed at its end. A request of a command that is not built
-/// yet is `Usage`.
+/// whole, and on a refusal one line goes to `err`. `context C` prints the canonical text of the context, `expr C E` that of
+/// the expression that the identities make of the text, `cat FILE` that of the file's automaton, and `eval FILE WORD` the
+/// coefficient of the file's automaton at the word (Sakarovitch, Elements of Automata Theory), each with a line feed at its
+/// end. A request of a command that is not built yet is `Usage`.
 pub fn run<F: Files, O: Sink, E: Sink>(
     alloc: Global,
     words: &[String],
@@ -116,6 +118,10 @@ pub fn run<F: Files, O: Sink, E: Sink>(
 {
     contexts_have_texts();
     texts_spell_one_word();
+    texts_have_one_answer::<bool>();
+    texts_have_one_answer::<i128>();
+    texts_have_one_answer::<Fraction>();
+    texts_have_one_answer::<NminValue>();
     match request_of(alloc, words) {
         Ok(request) => {
             let answer = answer(alloc, &request, files);

@@ -36,6 +36,10 @@ pub(super) const ANSWERS: &[Group] = &[
             (&["eval", "residues", "b"], 0, "1\n", ""),
             (&["eval", "blank_in_entry", "a"], 0, "0\n", ""),
             (&["eval", "blank_line", "a"], 0, "0\n", ""),
+            (&["eval", "pairs", "a|\\|xx"], 0, "-2\n", ""),
+            (&["eval", "pairs", "aa|\\|xx\\|x"], 0, "4\n", ""),
+            (&["eval", "pairs", "\\e|xx"], 0, "1\n", ""),
+            (&["eval", "pairs", "a|x"], 0, "0\n", ""),
         ],
     },
     Group {

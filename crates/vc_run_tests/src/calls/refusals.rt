@@ -18,8 +18,11 @@ pub(super) const REFUSALS: &[Group] = &[
             (&["eval", "contains_ab", "a # b"], 5, "", WORD_SYNTAX),
             (&["eval", "contains_ab", ""], 5, "", WORD_SYNTAX),
             (&["eval", "greatest_cost", "a"], 9, "", RANGE),
-            (&["eval", "pairs", "%"], 11, "", CONTEXTS),
+            (&["eval", "pairs", "%"], 5, "", WORD_SYNTAX),
+            (&["eval", "pairs", "a"], 6, "", WORD_LABEL),
+            (&["eval", "pairs", "a|y"], 6, "", WORD_LABEL),
             (&["eval", "words", "a"], 11, "", CONTEXTS),
+            (&["eval", "words", "c"], 6, "", WORD_LABEL),
         ],
     },
     Group {

@@ -26,7 +26,6 @@ pub(super) const USAGES: &[Group] = &[
         err_takes: 128,
         failing: &[],
         rows: &[
-            (&["expr", "lal_char(ab), b", "a"], 2, "", USAGE),
             (&["eval", "lal_char(ab), b", "a", "a"], 2, "", USAGE),
             (
                 &["standard", "lal_char(ab), b", "a", "--limit", "3"],
