@@ -10,13 +10,13 @@ use Rattle.vc_model.specs.WeightSet.{WeightSet}
 use Rattle.vc_model.specs.Lists.{In, NoRepeat}
 use Rattle.vc_model.specs.Members.{NoRepeat-append}
 use Rattle.vc_model.specs.Words.{Word}
-use Rattle.vc_terms.specs.Terms.{Term, Zero}
-use Rattle.vc_terms.specs.Forms.{Everywhere}
+use Rattle.vc_terms.specs.Terms.{Term, Zero, terms_of}
+use Rattle.vc_terms.specs.Forms.{Everywhere, EverywhereIn}
 use Rattle.vc_expr.specs.Rows.{Row, tree_at, tree_of_row, trees, HasPartsBelow}
 use Rattle.vc_expr.specs.Names.{Has, Grows}
 use Rattle.vc_expr.specs.Nodes.{row_of}
 use Rattle.vc_expr.specs.Entries.{rows_in, facts_in}
-use Rattle.vc_expr.specs.Facts.{facts_of, IsStoredRoot, IsStore, IsPool, AreEarlier}
+use Rattle.vc_expr.specs.Facts.{facts_of, HasRootLetters, IsStoredRoot, IsStore, IsPool, AreNodes, AreEarlier}
 use Rattle.vc_expr.specs.declared.facts.Facts.{Facts}
 use Rattle.vc_expr.specs.declared.stored.Stored.{Stored}
 use Rattle.vc_expr.proofs.RowLaws.{trees_push, trees_length, row_tree, rows_alike, one_place, earlier_push, everywhere_row, everywhere_at, everywhere_push, more_below, none}
@@ -205,6 +205,28 @@ module _ {B V : Type 0} (R : WeightSet V) (equal : V → V → Bool) (parts : B 
           | inr h ↦ grown es new s x f at v P p k root (place ∙ h.0) (made ∙ h.1) h.2
         ]
 
+    -- what is true everywhere, and at the root of its tree, is true everywhere with it
+    pub put_everywhere : (Q : Term V → Type 0) (es new : List (Stored B V × Facts V)) (s : List (Term V)) (x : Stored B V) (f : Facts V) → trees (rows_in parts es) ≡ s → IsPool R equal (rows_in parts es) (facts_in es)
+        → EverywhereIn Q (terms_of (trees (rows_in parts es))) → HasPartsBelow (length s) (row_of parts x) → f ≡ facts_of R (tree_of_row s (row_of parts x)) → Q (tree_of_row s (row_of parts x))
+        → new ≡ insert_entry eq es x f → EverywhereIn Q (terms_of (trees (rows_in parts new)))
+    put_everywhere Q es new s x f v P E p k root made =
+        let all : EverywhereIn Q (terms_of s) = subst (λ ts. EverywhereIn Q (terms_of ts)) v E in
+        let here : Everywhere Q (tree_of_row s (row_of parts x)) = everywhere_row Q (length s) s (row_of parts x) p (λ j l. everywhere_at Q s j all l) root in
+        let more : EverywhereIn Q (terms_of (s ++ tree_of_row s (row_of parts x) ∷ [])) = everywhere_push Q s (tree_of_row s (row_of parts x)) all here in
+        elim (inserted eq x f es (beside es s x f v P k)) [
+          | inl h ↦ subst (λ ds. EverywhereIn Q (terms_of (trees (rows_in parts ds)))) (sym (made ∙ h.3)) E
+          | inr h ↦ subst (λ ts. EverywhereIn Q (terms_of ts)) (sym (ap (λ ds. trees (rows_in parts ds)) (made ∙ h.1) ∙ added_trees parts es s x f v)) more
+        ]
+
+    -- a node that is put into a store
+    pub put_nodes : (single : Bool) (es new : List (Stored B V × Facts V)) (s : List (Term V)) (x : Stored B V) (f : Facts V) (at : ℕ) → trees (rows_in parts es) ≡ s → AreNodes R equal single (rows_in parts es) (facts_in es)
+        → HasPartsBelow (length s) (row_of parts x) → f ≡ facts_of R (tree_of_row s (row_of parts x)) → IsStoredRoot R equal (tree_of_row s (row_of parts x)) → HasRootLetters single (tree_of_row s (row_of parts x))
+        → at ≡ position_or_len (eq x) (keys_of es) → new ≡ insert_entry eq es x f → AreNodes R equal single (rows_in parts new) (facts_in new)
+    put_nodes single es new s x f at v N p k root letters place made = record {
+      pool = (put_pool es new s x f at v N.pool p k root place made).0;
+      letters = put_everywhere (HasRootLetters single) es new s x f v N.pool N.letters p k letters made;
+    }
+
   empty_store : IsStore R equal []
   empty_store = record { once = tt; stored = tt }
 
@@ -218,3 +240,8 @@ module _ {B V : Type 0} (R : WeightSet V) (equal : V → V → Bool) (parts : B 
   pub no_pool : (es : List (Stored B V × Facts V)) → es ≡ [] → IsPool R equal (rows_in parts es) (facts_in es) × (trees (rows_in parts es) ≡ [])
   no_pool es e = subst (λ ds. IsPool R equal (rows_in parts ds) (facts_in ds) × (trees (rows_in parts ds) ≡ [])) (sym e)
       (empty_pool, none {V = V})
+
+  pub no_nodes : (single : Bool) (es : List (Stored B V × Facts V)) → es ≡ [] → AreNodes R equal single (rows_in parts es) (facts_in es)
+  no_nodes single es e =
+      let none_there : trees (rows_in parts es) ≡ [] = (no_pool es e).1 in
+      record { pool = (no_pool es e).0; letters = subst (λ ts. EverywhereIn (HasRootLetters single) (terms_of ts)) (sym none_there) tt }

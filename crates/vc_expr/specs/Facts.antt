@@ -2,7 +2,8 @@
 use Rattle.std.specs.Prelude.{◌≡◌, ℕ, ◌+◌, ◌-◌, ◌^◌, min, Bool, IsTrue, List, [], ◌∷◌, map}
 use Rattle.vc_model.specs.WeightSet.{WeightSet}
 use Rattle.vc_model.specs.Lists.{NoRepeat}
-use Rattle.vc_terms.specs.Terms.{Term, terms_of, constant_of, letter_count, bound_of, Star, Weight}
+use Rattle.vc_model.specs.Words.{IsLetter}
+use Rattle.vc_terms.specs.Terms.{Term, terms_of, constant_of, letter_count, bound_of, Atom, Star, Weight, Both, Shuffle}
 use Rattle.vc_terms.specs.Trees.{is_basic}
 use Rattle.vc_terms.specs.Forms.{IsBuiltRoot, EverywhereIn}
 use Rattle.vc_expr.specs.Rows.{Row, HasPartsBelow, trees}
@@ -33,6 +34,13 @@ pub record IsStoredRoot {V : Type 0} (R : WeightSet V) (equal : V → V → Bool
   pub values : HasRootValues R t
   pub constant : IsTrue (R.in_range (constant_of R t))
 
+-- where labels are single letters, a label at the root is one, and there alone stands a conjunction or a shuffle
+abbrev pub HasRootLetters : {V : Type 0} → Bool → Term V → Type 0
+HasRootLetters single (Atom a) = IsTrue single → IsLetter a
+HasRootLetters single (Both t u) = IsTrue single
+HasRootLetters single (Shuffle t u) = IsTrue single
+HasRootLetters single t = Unit {0}
+
 -- no tree stands twice, and all are such everywhere
 pub record IsStore {V : Type 0} (R : WeightSet V) (equal : V → V → Bool) (s : List (Term V)) : Type 0 where
   pub once : NoRepeat s
@@ -48,3 +56,8 @@ pub record IsPool {V : Type 0} (R : WeightSet V) (equal : V → V → Bool) (row
   pub earlier : AreEarlier 0 rows
   pub known : facts ≡ map (facts_of R) (trees rows)
   pub store : IsStore R equal (trees rows)
+
+-- the nodes with their facts are those of a store, whose conjunctions and shuffles join single letters
+pub record AreNodes {V : Type 0} (R : WeightSet V) (equal : V → V → Bool) (single : Bool) (rows : List (Row V)) (facts : List (Facts V)) : Type 0 where
+  pub pool : IsPool R equal rows facts
+  pub letters : EverywhereIn (HasRootLetters single) (terms_of (trees rows))

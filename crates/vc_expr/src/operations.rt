@@ -83,6 +83,7 @@ impl<L: LabelSet, S: Semiring> Exprs<L, S> {
     }
 
     fn add_both(&mut self, a: Expr, b: Expr) -> Result<Expr, ExprFault<S::Value>>
+        requires single { IsTrue L.SINGLE }
         requires first { Has self.old a }
         requires second { Has self.old b }
         requires first_some { IsSome (tree_of self.old a) }
@@ -127,6 +128,7 @@ impl<L: LabelSet, S: Semiring> Exprs<L, S> {
     }
 
     fn add_shuffle(&mut self, a: Expr, b: Expr) -> Result<Expr, ExprFault<S::Value>>
+        requires single { IsTrue L.SINGLE }
         requires first { Has self.old a }
         requires second { Has self.old b }
         requires first_more { IsMore (tree_of self.old a) }

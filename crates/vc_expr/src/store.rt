@@ -1,5 +1,7 @@
 //! A store of expressions: its nodes, and how one is put in.
-ghost use Rattle.vc_expr.specs.Facts.{IsStore};
+ghost use Rattle.vc_expr.specs.Facts.{HasRootLetters, IsStore};
+ghost use Rattle.vc_terms.specs.Forms.{EverywhereIn};
+ghost use Rattle.vc_terms.specs.Terms.{terms_of};
 
 use crate::expr::Expr;
 use crate::facts::Facts;
@@ -30,7 +32,7 @@ impl<L: LabelSet, S: Semiring> Model for Exprs<L, S> {
     ghost use Rattle.vc_terms.specs.Terms.{Term};
     ghost use Rattle.vc_terms.specs.Codes.{term_code};
     ghost use Rattle.vc_expr.specs.Entries.{rows_in, facts_in};
-    ghost use Rattle.vc_expr.specs.Facts.{IsPool};
+    ghost use Rattle.vc_expr.specs.Facts.{AreNodes};
     ghost use Rattle.vc_expr.specs.Rows.{trees};
 
     ghost Value = { List (Term S.Value) };
@@ -39,14 +41,14 @@ impl<L: LabelSet, S: Semiring> Model for Exprs<L, S> {
 
     ghost view = { λ s. trees (rows_in L.parts s.nodes.entries) };
 
-    ghost invariant = { λ s. IsPool S.set S.Value.eq (rows_in L.parts s.nodes.entries)
+    ghost invariant = { λ s. AreNodes S.set S.Value.eq L.SINGLE (rows_in L.parts s.nodes.entries)
         (facts_in s.nodes.entries) };
 }
 
 impl<L: LabelSet, S: Semiring> Exprs<L, S> {
     ghost use Rattle.std.specs.Prelude.{◌≡◌, ◌<◌, ◌↔◌, length, [], IsTrue, Ok};
     ghost use Rattle.vc_expr.specs.Answers.{IsMade};
-    ghost use Rattle.vc_expr.specs.Facts.{facts_of, IsStoredRoot};
+    ghost use Rattle.vc_expr.specs.Facts.{facts_of, HasRootLetters, IsStoredRoot};
     ghost use Rattle.vc_expr.specs.Names.{Has, tree_of, Grows};
     ghost use Rattle.vc_expr.specs.Nodes.{row_of};
     ghost use Rattle.vc_expr.specs.Rows.{HasPartsBelow, tree_of_row};
@@ -99,6 +101,7 @@ impl<L: LabelSet, S: Semiring> Exprs<L, S> {
         requires parts { HasPartsBelow (length self.old) (row_of L.parts node) }
         requires facts { facts ≡ facts_of S.set (tree_of_row self.old (row_of L.parts node)) }
         requires root { IsStoredRoot S.set S.Value.eq (tree_of_row self.old (row_of L.parts node)) }
+        requires letters { HasRootLetters L.SINGLE (tree_of_row self.old (row_of L.parts node)) }
         ensures answer { IsMade self.new (Ok (tree_of_row self.old (row_of L.parts node))) result }
         ensures grows { Grows self.old self.new }
     {
@@ -110,10 +113,11 @@ impl<L: LabelSet, S: Semiring> Exprs<L, S> {
     }
 }
 
-/// No tree stands twice in a store, each is as the operations build it, and each star in it is
-/// defined.
+/// No tree stands twice in a store, each is as the operations build it, each star in it is defined,
+/// and conjunctions and shuffles stand over single letters.
 pub(crate) fn stores_hold<L: LabelSet, S: Semiring>(store: &Exprs<L, S>)
-    ensures { IsStore S.set S.Value.eq store.now }
+    ensures store { IsStore S.set S.Value.eq store.now }
+    ensures letters { EverywhereIn (HasRootLetters L.SINGLE) (terms_of store.now) }
 {
     let _ = store.nodes.len();
 }

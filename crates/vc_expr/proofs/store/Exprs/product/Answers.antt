@@ -18,7 +18,7 @@ pub close_product-requires-clause-factors : goal.close_product-requires-clause-f
 close_product-requires-clause-factors g c =
     subst (λ ts. AreFactors (terms_of ts)) (sym c.in_ok-factors.ensures.trees)
     (c.operations_build_trees.ensures.factors g.S.Semiring.set g.S.Value.PartialEq.eq (trees_of c.args.self.now c.args.parts.now) (sym c.if-any_zero.ensures)
-    (built_all g.S.Semiring.set g.S.Value.PartialEq.eq c.args.self.now c.args.parts.now c.stores_hold.ensures c.requires))
+    (built_all g.S.Semiring.set g.S.Value.PartialEq.eq c.args.self.now c.args.parts.now c.stores_hold.ensures.store c.requires))
 
 pub returns-in-Ok-close_product-clause-answer : goal.returns-in-Ok-close_product-clause-answer
 returns-in-Ok-close_product-clause-answer g c =

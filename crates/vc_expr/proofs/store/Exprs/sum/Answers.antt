@@ -9,4 +9,4 @@ pub close_sum-requires-clause-members : goal.close_sum-requires-clause-members
 close_sum-requires-clause-members g c =
     subst (λ ts. AreMembers (terms_of ts)) (sym c.in_ok-members.ensures.trees)
     (c.operations_build_trees.ensures.members g.S.Semiring.set g.S.Value.PartialEq.eq (trees_of c.args.self.now c.args.parts.now)
-    (built_all g.S.Semiring.set g.S.Value.PartialEq.eq c.args.self.now c.args.parts.now c.stores_hold.ensures c.requires))
+    (built_all g.S.Semiring.set g.S.Value.PartialEq.eq c.args.self.now c.args.parts.now c.stores_hold.ensures.store c.requires))
