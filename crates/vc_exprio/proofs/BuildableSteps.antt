@@ -1,5 +1,5 @@
 -- The steps of a tree can be made where its weights are in their ranges and its operators are those of the context.
-use Rattle.std.proofs.Common.{◌≡◌, ℕ, Bool, true, false, List, [], ◌∷◌, ◌++◌, map, Option, Some, None, refl, ap, ap₂, sym, ◌∙◌, IsTrue}
+use Rattle.std.proofs.Common.{◌≡◌, ℕ, Bool, true, false, List, [], ◌∷◌, ◌++◌, map, Option, None, refl, ap, ap₂, sym, ◌∙◌, IsTrue}
 use Rattle.std.specs.Option.{is_some}
 use Rattle.std.specs.Prelude.{◌&&◌, not, if◌then◌else◌}
 use Rattle.vc_lex.specs.Marks.{Mark}
@@ -13,34 +13,7 @@ use Rattle.vc_exprio.specs.Places.{first_place, is_operator, is_operator_kind, i
 use Rattle.vc_exprio.specs.Spelling.{is_weight_of}
 use Rattle.vc_exprio.specs.Steps.{Op, more_op, open_of, last_of, steps_of}
 use Rattle.vc_exprio.specs.Trees.{Tree, Barred, zero_tree, label, class, group, star, weight_behind, weight_before, times, both, shuffle, plus, tokens_of}
-
--- ---- a token of some kind stands in neither of two lists
-
-place_left : (test : Mark → Bool) (a b : List Mark) → first_place test (a ++ b) ≡ None → first_place test a ≡ None
-place_left test [] b e = refl
-place_left test (m ∷ a) b e = go (test m) (place_left test a b) e
-  where
-    go : (t : Bool) → (first_place test (a ++ b) ≡ None → first_place test a ≡ None)
-        → (if t then Some m.at else first_place test (a ++ b)) ≡ None → (if t then Some m.at else first_place test a) ≡ None
-    go true f e = absurd (cc)
-    go false f e = f e
-
-place_right : (test : Mark → Bool) (a b : List Mark) → first_place test (a ++ b) ≡ None → first_place test b ≡ None
-place_right test [] b e = e
-place_right test (m ∷ a) b e = go (test m) (place_right test a b) e
-  where
-    go : (t : Bool) → (first_place test (a ++ b) ≡ None → first_place test b ≡ None)
-        → (if t then Some m.at else first_place test (a ++ b)) ≡ None → first_place test b ≡ None
-    go true f e = absurd (cc)
-    go false f e = f e
-
--- and the first one is none
-place_first : (test : Mark → Bool) (m : Mark) (ms : List Mark) → first_place test (m ∷ ms) ≡ None → test m ≡ false
-place_first test m ms e = go (test m) refl e
-  where
-    go : (t : Bool) → test m ≡ t → (if t then Some m.at else first_place test ms) ≡ None → test m ≡ false
-    go true f e = absurd (cc)
-    go false f e = f
+use Rattle.vc_exprio.proofs.FirstPlaces.{none_left, none_right, none_at}
 
 -- ---- weights and operators
 
@@ -76,16 +49,16 @@ module _ {V : Type 0} (spelled : List ℕ → Option V) (fit : List ℕ → Bool
     pub operators : single ≡ false → first_place is_operator ms ≡ None
 
   clear_left : (a b : List Mark) → AreClear (a ++ b) → AreClear a
-  clear_left a b h = record { numbers = place_left (is_unfit spelled fit) a b h.numbers; operators = λ e. place_left is_operator a b (h.operators e) }
+  clear_left a b h = record { numbers = none_left (is_unfit spelled fit) a b h.numbers; operators = λ e. none_left is_operator a b (h.operators e) }
 
   clear_right : (a b : List Mark) → AreClear (a ++ b) → AreClear b
-  clear_right a b h = record { numbers = place_right (is_unfit spelled fit) a b h.numbers; operators = λ e. place_right is_operator a b (h.operators e) }
+  clear_right a b h = record { numbers = none_right (is_unfit spelled fit) a b h.numbers; operators = λ e. none_right is_operator a b (h.operators e) }
 
   clear_rest : (m : Mark) (ms : List Mark) → AreClear (m ∷ ms) → AreClear ms
   clear_rest m ms h = clear_right (m ∷ []) ms h
 
   weight_fits : (m : Mark) (ms : List Mark) → IsWeight (is_weight_of spelled) m → AreClear (m ∷ ms) → IsTrue (is_some (spelled (inside m.text))) × IsTrue (fit (inside m.text))
-  weight_fits m ms w h = (w.1, fit_by m.kind (is_some (spelled (inside m.text))) (fit (inside m.text)) w.0 w.1 (place_first (is_unfit spelled fit) m ms h.numbers))
+  weight_fits m ms w h = (w.1, fit_by m.kind (is_some (spelled (inside m.text))) (fit (inside m.text)) w.0 w.1 (none_at (is_unfit spelled fit) m ms h.numbers))
 
   -- an operator stands there over single letters
   over_single : (m : Mark) (ms : List Mark) (k : TokenKind) → m.kind ≡ k → is_operator_kind k ≡ true → AreClear (m ∷ ms) → IsTrue single
@@ -93,7 +66,7 @@ module _ {V : Type 0} (spelled : List ℕ → Option V) (fit : List ℕ → Bool
     where
       go : (b : Bool) → single ≡ b → IsTrue single
       go true f = f
-      go false f = absurd (no_operator m.kind k e t (place_first is_operator m ms (h.operators f)))
+      go false f = absurd (no_operator m.kind k e t (none_at is_operator m ms (h.operators f)))
 
   abbrev Holds : Tree → Type 0
   Holds t = Are (open_of t) × Are (last_of t)

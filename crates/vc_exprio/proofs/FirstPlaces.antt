@@ -1,5 +1,5 @@
 -- The first of some tokens, one by one.
-use Rattle.std.proofs.Common.{◌≡◌, ◌<◌, ◌≤◌, ◌+◌, ℕ, Bool, true, false, List, [], length, map, drop, Some, None, refl, ap, ◌∙◌, sym, add-one, drop-cons, arith}
+use Rattle.std.proofs.Common.{◌≡◌, ◌<◌, ◌≤◌, ◌+◌, ℕ, Bool, true, false, List, [], ◌∷◌, ◌++◌, length, map, drop, Some, None, refl, ap, ◌∙◌, sym, add-one, drop-cons, arith}
 use Rattle.std.specs.Prelude.{if◌then◌else◌, slice_index_or}
 use Rattle.std.proofs.lemmas.Grind.{common_steps}
 use Rattle.vc_lex.specs.Marks.{Mark}
@@ -22,3 +22,29 @@ at_place test see xs i d h e f =
 pub no_place : {X : Type 0} (test : Mark → Bool) (see : X → Mark) (xs : List X) (i : ℕ) → length xs ≤ i
     → first_place test (map see (drop i xs)) ≡ first_place test (map see xs) → None ≡ first_place test (map see xs)
 no_place test see xs i h f = let d : drop i xs ≡ [] = grind (arith, common_steps) in ap (λ ys. first_place test (map see ys)) (sym d) ∙ f
+
+-- where none of all passes, none of those on the left does
+pub none_left : (test : Mark → Bool) (ms ns : List Mark) → first_place test (ms ++ ns) ≡ None → first_place test ms ≡ None
+none_left test [] ns e = refl
+none_left test (m ∷ ms) ns e = go (none_left test ms ns) (test m) e
+  where
+    go : (first_place test (ms ++ ns) ≡ None → first_place test ms ≡ None) → (b : Bool) → (if b then Some m.at else first_place test (ms ++ ns)) ≡ None → (if b then Some m.at else first_place test ms) ≡ None
+    go f true h = absurd (cc h)
+    go f false h = f h
+
+-- nor of those on the right
+pub none_right : (test : Mark → Bool) (ms ns : List Mark) → first_place test (ms ++ ns) ≡ None → first_place test ns ≡ None
+none_right test [] ns e = e
+none_right test (m ∷ ms) ns e = go (none_right test ms ns) (test m) e
+  where
+    go : (first_place test (ms ++ ns) ≡ None → first_place test ns ≡ None) → (b : Bool) → (if b then Some m.at else first_place test (ms ++ ns)) ≡ None → first_place test ns ≡ None
+    go f true h = absurd (cc h)
+    go f false h = f h
+
+-- nor the first of them
+pub none_at : (test : Mark → Bool) (m : Mark) (ms : List Mark) → first_place test (m ∷ ms) ≡ None → test m ≡ false
+none_at test m ms e = go (test m) refl e
+  where
+    go : (b : Bool) → test m ≡ b → (if b then Some m.at else first_place test ms) ≡ None → test m ≡ false
+    go true h k = absurd (cc k)
+    go false h k = h

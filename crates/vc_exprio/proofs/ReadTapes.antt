@@ -1,48 +1,21 @@
 -- A raw expression that is read has the tapes of its context.
-use Rattle.std.proofs.Common.{◌≡◌, ◌⊎◌, ℕ, Bool, true, false, List, [], ◌∷◌, ◌++◌, length, map, suc, Option, None, Some, refl, sym, ◌∙◌, ap, subst, inl, inr}
+use Rattle.std.proofs.Common.{◌≡◌, ◌⊎◌, ℕ, Bool, true, false, List, [], ◌∷◌, ◌++◌, length, map, suc, None, refl, sym, ◌∙◌, ap, subst, inl, inr}
 use Rattle.std.specs.Prelude.{if◌then◌else◌}
 use Rattle.std.proofs.lemmas.List.{length-map}
 use Rattle.vc_label.specs.Sets.{IsOverSets}
 use Rattle.vc_label.specs.declared.tape_set.TapeSet.{TapeSet}
 use Rattle.vc_lex.specs.Marks.{Mark}
-use Rattle.vc_lex.specs.Parts.{tape_of, tape_text}
-use Rattle.vc_lex.specs.declared.token.TokenKind.{TokenKind}
+use Rattle.vc_lex.specs.Parts.{tape_of}
 use Rattle.vc_lex.specs.declared.token.TokenKind.TheVariants as kinds
 use Rattle.vc_model.specs.Words.{Word, is_empty}
 use Rattle.vc_terms.specs.Terms.{Term, Terms, NoTerms, MoreTerms, Zero, One, Atom, Sum, Product, IsOnTapes, AreOnTapes}
 use Rattle.vc_exprio.specs.Grammar.{InGrammar}
-use Rattle.vc_exprio.specs.Meaning.{is_plus, is_times, label_word, label_term, class_term, letter_terms, summands, factors, append, occurrences, parts, letters, term_of, Occurrence}
+use Rattle.vc_exprio.specs.Meaning.{is_plus, is_times, label_word, label_term, class_term, letter_terms, summands, factors, append, occurrences, parts, letters, term_of}
 use Rattle.vc_exprio.specs.Occurring.{AreOccurrencesOver, IsOccurrenceOver, letters_over}
 use Rattle.vc_exprio.specs.Places.{first_place, is_operator, is_operator_kind}
 use Rattle.vc_exprio.specs.Trees.{Tree, Barred, zero_tree, label, class, group, star, weight_behind, weight_before, times, both, shuffle, plus, tokens_of}
-
--- ---- the first of some tokens
-
--- where none of all passes, none of the first passes
-none_first : (test : Mark → Bool) (ms ns : List Mark) → first_place test (ms ++ ns) ≡ None → first_place test ms ≡ None
-none_first test [] ns e = refl
-none_first test (m ∷ ms) ns e = go (none_first test ms ns) (test m) e
-  where
-    go : (first_place test (ms ++ ns) ≡ None → first_place test ms ≡ None) → (b : Bool) → (if b then Some m.at else first_place test (ms ++ ns)) ≡ None → (if b then Some m.at else first_place test ms) ≡ None
-    go f true h = absurd (cc h)
-    go f false h = f h
-
--- and none of the last
-none_last : (test : Mark → Bool) (ms ns : List Mark) → first_place test (ms ++ ns) ≡ None → first_place test ns ≡ None
-none_last test [] ns e = e
-none_last test (m ∷ ms) ns e = go (none_last test ms ns) (test m) e
-  where
-    go : (first_place test (ms ++ ns) ≡ None → first_place test ns ≡ None) → (b : Bool) → (if b then Some m.at else first_place test (ms ++ ns)) ≡ None → first_place test ns ≡ None
-    go f true h = absurd (cc h)
-    go f false h = f h
-
--- nor does the first of them
-none_at : (test : Mark → Bool) (m : Mark) (ms : List Mark) → first_place test (m ∷ ms) ≡ None → test m ≡ false
-none_at test m ms e = go (test m) refl e
-  where
-    go : (b : Bool) → test m ≡ b → (if b then Some m.at else first_place test ms) ≡ None → test m ≡ false
-    go true h k = absurd (cc k)
-    go false h k = h
+use Rattle.vc_exprio.proofs.FirstPlaces.{none_left, none_right, none_at}
+use Rattle.vc_exprio.proofs.RootsOver.{one_is_empty, occur_left, occur_right}
 
 -- ---- the labels of a context
 
@@ -51,14 +24,6 @@ over_tapes [] [] o = refl
 over_tapes [] (a ∷ w) o = absurd o
 over_tapes (s ∷ sets) [] o = absurd o
 over_tapes (s ∷ sets) (a ∷ w) o = ap suc (over_tapes sets w o.1)
-
-over_first : (sets : List TapeSet) (os ps : List Occurrence) → AreOccurrencesOver sets (os ++ ps) → AreOccurrencesOver sets os
-over_first sets [] ps h = tt
-over_first sets (o ∷ os) ps h = (h.0, over_first sets os ps h.1)
-
-over_last : (sets : List TapeSet) (os ps : List Occurrence) → AreOccurrencesOver sets (os ++ ps) → AreOccurrencesOver sets ps
-over_last sets [] ps h = h
-over_last sets (o ∷ os) ps h = over_last sets os ps h.1
 
 -- ---- terms
 
@@ -88,10 +53,6 @@ module _ (V : Type 0) (n : ℕ) where
 parts_length : (m : Mark) (bs : List Barred) → length (label_word m bs) ≡ length (map tape_of (m ∷ map (λ b. b.part) bs))
 parts_length m bs = ap suc (length-map bs (λ b. tape_of b.part) ∙ sym (length-map (map (λ b. b.part) bs) tape_of ∙ length-map bs (λ b. b.part)))
 
--- `\e` has no letter
-one_alone : (kind : TokenKind) (text : List ℕ) → kind ≡ kinds.One → is_empty (tape_text kind text ∷ []) ≡ true
-one_alone kind text e = subst (λ k. is_empty (tape_text k text ∷ []) ≡ true) (sym e) refl
-
 module _ {V : Type 0} (value : Mark → V) (sets : List TapeSet) where
   abbrev raw : Tree → Term V
   raw t = term_of value (letters_over sets) t
@@ -99,7 +60,7 @@ module _ {V : Type 0} (value : Mark → V) (sets : List TapeSet) where
   label_on : (m : Mark) (bs : List Barred) → IsOccurrenceOver sets (parts m (map (λ b. b.part) bs)) → IsOnTapes (length sets) (raw (label m bs))
   label_on m bs (inl h) = labelled V (length sets) (label_word m bs) (inr (parts_length m bs ∙ over_tapes sets (map tape_of (m ∷ map (λ b. b.part) bs)) h))
   label_on m bs (inr (inl h)) = labelled V (length sets) (label_word m bs) (inr (parts_length m bs ∙ h.1))
-  label_on m [] (inr (inr h)) = labelled V (length sets) (label_word m []) (inl (one_alone m.kind m.text h))
+  label_on m [] (inr (inr h)) = labelled V (length sets) (label_word m []) (inl (one_is_empty m h))
   label_on m (b ∷ bs) (inr (inr h)) = absurd h
 
   class_on : (ss : List TapeSet) (m : Mark) → IsOnTapes {V = V} (length ss) (class_term (letters_over ss m))
@@ -140,11 +101,11 @@ module _ {V : Type 0} (value : Mark → V) (sets : List TapeSet) where
 
   ops_first : (ms ns : List Mark) → HasOperators (ms ++ ns) → HasOperators ms
   ops_first ms ns (inl e) = inl e
-  ops_first ms ns (inr e) = inr (none_first is_operator ms ns e)
+  ops_first ms ns (inr e) = inr (none_left is_operator ms ns e)
 
   ops_last : (ms ns : List Mark) → HasOperators (ms ++ ns) → HasOperators ns
   ops_last ms ns (inl e) = inl e
-  ops_last ms ns (inr e) = inr (none_last is_operator ms ns e)
+  ops_last ms ns (inr e) = inr (none_right is_operator ms ns e)
 
   ops_rest : (m : Mark) (ms : List Mark) → HasOperators (m ∷ ms) → HasOperators ms
   ops_rest m ms h = ops_last (m ∷ []) ms h
@@ -152,7 +113,7 @@ module _ {V : Type 0} (value : Mark → V) (sets : List TapeSet) where
   -- a `:` stands over one tape
   one_tape : (ms : List Mark) (m : Mark) (ns : List Mark) → m.kind ≡ kinds.Shuffle → HasOperators (ms ++ m ∷ ns) → length sets ≡ 1
   one_tape ms m ns k (inl e) = e
-  one_tape ms m ns k (inr e) = absurd (cc (sym (ap is_operator_kind k) ∙ none_at is_operator m ns (none_last is_operator ms (m ∷ ns) e)))
+  one_tape ms m ns k (inr e) = absurd (cc (sym (ap is_operator_kind k) ∙ none_at is_operator m ns (none_right is_operator ms (m ∷ ns) e)))
 
   module _ (is_weight : Mark → Bool) where
     -- each label has the tapes of the context, and a shuffle stands over one tape alone
@@ -166,18 +127,18 @@ module _ {V : Type 0} (value : Mark → V) (sets : List TapeSet) where
     raw_on_tapes (weight_before m t) g o h = raw_on_tapes t g.1.1 o (ops_rest m (tokens_of t) h)
     raw_on_tapes (times t u) g o h =
         appended V (length sets) (factors (is_times t) (raw t)) (MoreTerms (raw u) NoTerms)
-        (multiplied t (raw_on_tapes t g.0.1 (over_first sets (occurrences t) (occurrences u) o) (ops_first (tokens_of t) (tokens_of u) h)))
-        (raw_on_tapes u g.1.1 (over_last sets (occurrences t) (occurrences u) o) (ops_last (tokens_of t) (tokens_of u) h), tt)
+        (multiplied t (raw_on_tapes t g.0.1 (occur_left sets (occurrences t) (occurrences u) o) (ops_first (tokens_of t) (tokens_of u) h)))
+        (raw_on_tapes u g.1.1 (occur_right sets (occurrences t) (occurrences u) o) (ops_last (tokens_of t) (tokens_of u) h), tt)
     raw_on_tapes (both t m u) g o h = (
-      raw_on_tapes t g.0.1 (over_first sets (occurrences t) (occurrences u) o) (ops_first (tokens_of t) (m ∷ tokens_of u) h),
-      raw_on_tapes u g.2.1 (over_last sets (occurrences t) (occurrences u) o) (ops_rest m (tokens_of u) (ops_last (tokens_of t) (m ∷ tokens_of u) h)),
+      raw_on_tapes t g.0.1 (occur_left sets (occurrences t) (occurrences u) o) (ops_first (tokens_of t) (m ∷ tokens_of u) h),
+      raw_on_tapes u g.2.1 (occur_right sets (occurrences t) (occurrences u) o) (ops_rest m (tokens_of u) (ops_last (tokens_of t) (m ∷ tokens_of u) h)),
     )
     raw_on_tapes (shuffle t m u) g o h = (
       one_tape (tokens_of t) m (tokens_of u) g.1 h,
-      raw_on_tapes t g.0.1 (over_first sets (occurrences t) (occurrences u) o) (ops_first (tokens_of t) (m ∷ tokens_of u) h),
-      raw_on_tapes u g.2.1 (over_last sets (occurrences t) (occurrences u) o) (ops_rest m (tokens_of u) (ops_last (tokens_of t) (m ∷ tokens_of u) h)),
+      raw_on_tapes t g.0.1 (occur_left sets (occurrences t) (occurrences u) o) (ops_first (tokens_of t) (m ∷ tokens_of u) h),
+      raw_on_tapes u g.2.1 (occur_right sets (occurrences t) (occurrences u) o) (ops_rest m (tokens_of u) (ops_last (tokens_of t) (m ∷ tokens_of u) h)),
     )
     raw_on_tapes (plus t m u) g o h =
         appended V (length sets) (summands (is_plus t) (raw t)) (MoreTerms (raw u) NoTerms)
-        (summed t (raw_on_tapes t g.0.1 (over_first sets (occurrences t) (occurrences u) o) (ops_first (tokens_of t) (m ∷ tokens_of u) h)))
-        (raw_on_tapes u g.2.1 (over_last sets (occurrences t) (occurrences u) o) (ops_rest m (tokens_of u) (ops_last (tokens_of t) (m ∷ tokens_of u) h)), tt)
+        (summed t (raw_on_tapes t g.0.1 (occur_left sets (occurrences t) (occurrences u) o) (ops_first (tokens_of t) (m ∷ tokens_of u) h)))
+        (raw_on_tapes u g.2.1 (occur_right sets (occurrences t) (occurrences u) o) (ops_rest m (tokens_of u) (ops_last (tokens_of t) (m ∷ tokens_of u) h)), tt)

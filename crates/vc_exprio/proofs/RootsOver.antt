@@ -113,7 +113,8 @@ module _ (V : Type 0) (sets : List TapeSet) where
   class_over [] h = tt
   class_over (x ∷ xs) h = (tt, letters_are_over (x ∷ xs) h)
 
-one_is_empty : (m : Mark) → m.kind ≡ kinds.One → is_empty (tape_of m ∷ []) ≡ true
+-- `\e` has no letter
+pub one_is_empty : (m : Mark) → m.kind ≡ kinds.One → is_empty (tape_of m ∷ []) ≡ true
 one_is_empty m e = ap (λ k. is_empty (tape_text k m.text ∷ [])) e
 
 parts_of_bars : (bs : List Barred) → map tape_of (map (λ b. b.part) bs) ≡ map (λ b. tape_of b.part) bs
@@ -131,20 +132,21 @@ parts_over sets m bs h = subst (λ w. (is_empty (tape_of m ∷ w) ≡ true) ⊎ 
     go [] (inr (inr e)) = inl (one_is_empty m e)
     go (b ∷ bs) (inr (inr e)) = absurd e
 
+-- the labels on the left of labels of the context, and on the right
+pub occur_left : (sets : List TapeSet) (os ps : List meaning.Occurrence) → AreOccurrencesOver sets (os ++ ps) → AreOccurrencesOver sets os
+occur_left sets [] ps h = tt
+occur_left sets (o ∷ os) ps h = (h.0, occur_left sets os ps h.1)
+
+pub occur_right : (sets : List TapeSet) (os ps : List meaning.Occurrence) → AreOccurrencesOver sets (os ++ ps) → AreOccurrencesOver sets ps
+occur_right sets [] ps h = h
+occur_right sets (o ∷ os) ps h = occur_right sets os ps h.1
+
 module _ {V : Type 0} (listed : (a : Alphabet) (y : ℕ) → In y (letters_of a) ↔ (has_letter a y ≡ true)) (sets : List TapeSet) (value : Mark → V) where
   abbrev Shown : Tree → Type 0
   Shown t = Everywhere (IsRootOver sets) (term_of value (letters_over sets) t)
 
   abbrev Occur : Tree → Type 0
   Occur t = AreOccurrencesOver sets (occurrences t)
-
-  occur_left : (os ps : List meaning.Occurrence) → AreOccurrencesOver sets (os ++ ps) → AreOccurrencesOver sets os
-  occur_left [] ps h = tt
-  occur_left (o ∷ os) ps h = (h.0, occur_left os ps h.1)
-
-  occur_right : (os ps : List meaning.Occurrence) → AreOccurrencesOver sets (os ++ ps) → AreOccurrencesOver sets ps
-  occur_right [] ps h = h
-  occur_right (o ∷ os) ps h = occur_right os ps h.1
 
   -- the labels of the expression of a tree are over the sets
   pub shown_over : (t : Tree) → Occur t → Shown t
@@ -158,14 +160,14 @@ module _ {V : Type 0} (listed : (a : Alphabet) (y : ℕ) → In y (letters_of a)
   shown_over (times t u) h = (
     tt,
     over_append V sets (meaning.factors (is_times t) (term_of value (letters_over sets) t)) (MoreTerms (term_of value (letters_over sets) u) NoTerms)
-        (terms_factors V sets (is_times t) (term_of value (letters_over sets) t) (shown_over t (occur_left (occurrences t) (occurrences u) h)))
-        (shown_over u (occur_right (occurrences t) (occurrences u) h), tt),
+        (terms_factors V sets (is_times t) (term_of value (letters_over sets) t) (shown_over t (occur_left sets (occurrences t) (occurrences u) h)))
+        (shown_over u (occur_right sets (occurrences t) (occurrences u) h), tt),
   )
-  shown_over (both t m u) h = (tt, shown_over t (occur_left (occurrences t) (occurrences u) h), shown_over u (occur_right (occurrences t) (occurrences u) h))
-  shown_over (shuffle t m u) h = (tt, shown_over t (occur_left (occurrences t) (occurrences u) h), shown_over u (occur_right (occurrences t) (occurrences u) h))
+  shown_over (both t m u) h = (tt, shown_over t (occur_left sets (occurrences t) (occurrences u) h), shown_over u (occur_right sets (occurrences t) (occurrences u) h))
+  shown_over (shuffle t m u) h = (tt, shown_over t (occur_left sets (occurrences t) (occurrences u) h), shown_over u (occur_right sets (occurrences t) (occurrences u) h))
   shown_over (plus t m u) h = (
     tt,
     over_append V sets (summands (is_plus t) (term_of value (letters_over sets) t)) (MoreTerms (term_of value (letters_over sets) u) NoTerms)
-        (terms_summands V sets (is_plus t) (term_of value (letters_over sets) t) (shown_over t (occur_left (occurrences t) (occurrences u) h)))
-        (shown_over u (occur_right (occurrences t) (occurrences u) h), tt),
+        (terms_summands V sets (is_plus t) (term_of value (letters_over sets) t) (shown_over t (occur_left sets (occurrences t) (occurrences u) h)))
+        (shown_over u (occur_right sets (occurrences t) (occurrences u) h), tt),
   )

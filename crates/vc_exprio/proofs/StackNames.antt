@@ -1,11 +1,11 @@
 -- Names on a stack, and what a call puts in place of the last of them.
-use Rattle.std.proofs.Common.{◌≡◌, ◌-◌, ℕ, Bool, true, Result, Ok, Err, List, [], ◌∷◌, ◌++◌, take, drop, length, refl, ap, ap₂, sym, ◌∙◌, subst, arith, length-append, All}
+use Rattle.std.proofs.Common.{◌≡◌, ◌-◌, ℕ, true, Result, Ok, Err, List, [], ◌∷◌, ◌++◌, take, drop, length, refl, ap, ap₂, sym, ◌∙◌, subst, arith, length-append, All}
 use Rattle.std.proofs.Math.ListN.{get_or-append}
 use Rattle.std.proofs.Math.Seq.{take-append_seam, drop-append_seam}
 use Rattle.std.proofs.lemmas.List.{take_all, length-drop, length-map, take-append-drop}
 use Rattle.std.proofs.lemmas.List.Elements.{All-cons, All-head, All-tail, All-weaker, All-append, All-nil}
 use Rattle.std.specs.Prelude.{◌≤◌, nat_le, if◌then◌else◌}
-use Rattle.vc_expr.specs.Answers.{IsMade, IsStarMade, star_answer}
+use Rattle.vc_expr.specs.Answers.{IsMade, IsStarMade}
 use Rattle.vc_expr.specs.Names.{Has, tree_of, trees_of, Grows}
 use Rattle.vc_expr.specs.declared.expr.Expr.{Expr}
 use Rattle.vc_expr.specs.declared.fault.ExprFault.{ExprFault}
@@ -13,10 +13,11 @@ use Rattle.vc_expr.specs.declared.fault.ExprFault.TheVariants.{InvalidStar, Over
 use Rattle.vc_ring.specs.declared.faults.Overflow.{Overflow as Step}
 use Rattle.vc_ring.specs.declared.faults.StarFault.{StarFault}
 use Rattle.vc_terms.specs.Terms.{Term, Zero}
-use Rattle.vc_exprio.specs.BuildAnswers.{text_fault, IsRefusedBy, AreMade}
-use Rattle.vc_exprio.specs.Building.{BuildRefusal, unfit, no_star, unless_unfit, unless_no_star, star_call}
-use Rattle.vc_exprio.specs.Making.{Progress, made, refused, lacking, put_behind, replaced, of_one}
-use Rattle.vc_model.specs.WeightSet.{WeightSet}
+use Rattle.vc_exprio.specs.BuildAnswers.{text_fault, IsRefusedBy, AreMade, IsPut}
+use Rattle.vc_exprio.specs.Building.{BuildRefusal, unfit, no_star, unless_unfit, unless_no_star}
+use Rattle.vc_exprio.specs.Making.{Progress, made, lacking, put_behind, replaced}
+use Rattle.vc_exprio.specs.declared.fault.TextFault.{TextFault}
+use Rattle.vc_exprio.specs.declared.fault.TextFault.TheVariants as text
 
 All-front : {X : Type 0} (P : X → Type 0) (xs ys : List X) → All P (xs ++ ys) → All P xs
 All-front P [] ys h = All-nil P
@@ -95,70 +96,60 @@ module _ {V : Type 0} where
     i ∙ ap (λ ts. made (ts ++ tree_of new e ∷ [])) (sym (trees_kept old new front G h)) ∙ ap made (sym (trees_append new front (e ∷ []))),
   )
 
-  -- a step whose call puts a name behind the others
-  pub step_put : (p : Progress V) (old new : List (Term V)) (names others : List Expr) (e : Expr) (answer : Result (Term V) (Step V)) → p ≡ put_behind (trees_of old names) (unless_unfit answer)
-      → others ≡ names ++ e ∷ [] → All (Has old) names → Grows old new → IsMade new answer (Ok e) → AreMade p new others (Ok tt)
-  step_put p old new names others e answer i o h G m =
-      subst (λ es. AreMade p new es (Ok tt)) (sym o) (made_behind old new names e G h m.0 p (i ∙ ap (λ a. put_behind (trees_of old names) (unless_unfit a)) m.1))
+  -- what a call gave, where this is what it makes or why it refuses; want of memory is free
+  abbrev pub IsGiven : Result (Term V) (BuildRefusal V) → List (Term V) → Result Expr (ExprFault V) → Type 0
+  IsGiven r s (Ok e) = Has s e × (r ≡ Ok (tree_of s e))
+  IsGiven r s (Err (InvalidStar e c)) = Has s e × (r ≡ Err (no_star (tree_of s e) c))
+  IsGiven r s (Err (Overflow o)) = r ≡ Err (unfit o)
+  IsGiven r s (Err (Memory x)) = Unit {0}
 
-  call_made : (n : ℕ) (call : List (Term V) → Result (Term V) (BuildRefusal V)) (old new : List (Term V)) (front last : List Expr) (e : Expr) → length last ≡ n
-      → Grows old new → All (Has old) front → Has new e → call (trees_of old last) ≡ Ok (tree_of new e)
-      → AreMade (replaced n call (trees_of old (front ++ last))) new (front ++ e ∷ []) (Ok tt)
-  call_made n call old new front last e l G h k i =
-      made_behind old new front e G h k (replaced n call (trees_of old (front ++ last))) (replaced_at n call old front last l ∙ ap (put_behind (trees_of old front)) i)
+  pub given_made : (answer : Result (Term V) (Step V)) (s : List (Term V)) (given : Result Expr (ExprFault V)) → IsMade s answer given → IsGiven (unless_unfit answer) s given
+  given_made answer s (Ok e) m = (m.0, ap unless_unfit m.1)
+  given_made answer s (Err (InvalidStar e c)) m = absurd m
+  given_made answer s (Err (Overflow o)) m = ap unless_unfit m
+  given_made answer s (Err (Memory x)) m = tt
 
-  call_refused : (n : ℕ) (call : List (Term V) → Result (Term V) (BuildRefusal V)) (s : List (Term V)) (front last : List Expr) (f : BuildRefusal V) → length last ≡ n
-      → call (trees_of s last) ≡ Err f → replaced n call (trees_of s (front ++ last)) ≡ refused f
-  call_refused n call s front last f l i = replaced_at n call s front last l ∙ ap (put_behind (trees_of s front)) i
+  pub given_star : (answer : Result (Term V) (StarFault V)) (old new : List (Term V)) (e : Expr) (given : Result Expr (ExprFault V)) → Grows old new → Has old e
+      → IsStarMade new e answer given → IsGiven (unless_no_star (tree_of old e) answer) new given
+  given_star answer old new e (Ok d) G h m = (m.0, ap (unless_no_star (tree_of old e)) m.1)
+  given_star answer old new e (Err (InvalidStar d c)) G h m = (
+    subst (Has new) (sym m.0) (grown_has old new e G h),
+    ap (λ t. unless_no_star t answer) (sym (grown_tree old new e G h) ∙ ap (tree_of new) (sym m.0)) ∙ ap (unless_no_star (tree_of new d)) m.1,
+  )
+  given_star answer old new e (Err (Overflow o)) G h m = ap (unless_no_star (tree_of old e)) m
+  given_star answer old new e (Err (Memory x)) G h m = tt
 
-  -- a refusal of the store is that of the step
-  store_refused : (answer : Result (Term V) (Step V)) (s : List (Term V)) (p : Progress V) (fault : ExprFault V)
-      → ((f : BuildRefusal V) → unless_unfit answer ≡ Err f → p ≡ refused f) → IsMade s answer (Err fault) → IsRefusedBy p s (text_fault fault)
-  store_refused answer s p (InvalidStar e c) f h = absurd h
-  store_refused answer s p (Overflow o) f h = f (unfit o) (ap unless_unfit h)
-  store_refused answer s p (Memory e) f h = tt
+  -- ---- what a call gave is put behind the names before its operands
 
-  star_refused : (answer : Result (Term V) (StarFault V)) (s : List (Term V)) (e : Expr) (p : Progress V) (fault : ExprFault V) → Has s e
-      → ((f : BuildRefusal V) → unless_no_star (tree_of s e) answer ≡ Err f → p ≡ refused f) → IsStarMade s e answer (Err fault) → IsRefusedBy p s (text_fault fault)
-  star_refused answer s e p (InvalidStar d c) k f h =
-      (subst (Has s) (sym h.0) k, f (no_star (tree_of s e) c) (ap (unless_no_star (tree_of s e)) h.1) ∙ ap (λ x. refused (no_star (tree_of s x) c)) (sym h.0))
-  star_refused answer s e p (Overflow o) k f h = f (unfit o) (ap (unless_no_star (tree_of s e)) h)
-  star_refused answer s e p (Memory x) k f h = tt
+  module _ (p : Progress V) (old new : List (Term V)) (front others : List Expr) (r : Result (Term V) (BuildRefusal V)) (i : p ≡ put_behind (trees_of old front) r) where
+    handed_on : (fault : ExprFault V) → IsGiven r new (Err fault) → IsRefusedBy p new (text_fault fault)
+    handed_on (InvalidStar e c) m = (m.0, i ∙ ap (put_behind (trees_of old front)) m.1)
+    handed_on (Overflow o) m = i ∙ ap (put_behind (trees_of old front)) m
+    handed_on (Memory x) m = tt
 
-  -- ---- a step whose call has the last names as its operands
+    no_room : (e : Expr) (fault : TextFault V) → IsPut front (Ok e) others (Err fault) → IsRefusedBy p new fault
+    no_room e (text.Limit l) o = absurd o
+    no_room e (text.BadByte at) o = absurd o
+    no_room e (text.NotAnExpression at) o = absurd o
+    no_room e (text.NotALabel at) o = absurd o
+    no_room e (text.NotInContext at) o = absurd o
+    no_room e (text.InvalidStar d c) o = absurd o
+    no_room e (text.Overflow s) o = absurd o
+    no_room e (text.Memory x) o = tt
 
-  module _ (n : ℕ) (call : List (Term V) → Result (Term V) (BuildRefusal V)) (old new : List (Term V)) (names front last : List Expr) where
-    pub step_made : (answer : Result (Term V) (Step V)) → call (trees_of old last) ≡ unless_unfit answer → length last ≡ n → names ≡ front ++ last → All (Has old) names → Grows old new
-        → (e : Expr) (others : List Expr) → others ≡ front ++ e ∷ [] → IsMade new answer (Ok e) → AreMade (replaced n call (trees_of old names)) new others (Ok tt)
-    step_made answer c l s h G e others o m =
-        subst (λ es. AreMade (replaced n call (trees_of old names)) new es (Ok tt)) (sym o)
-        (subst (λ es. AreMade (replaced n call (trees_of old es)) new (front ++ e ∷ []) (Ok tt)) (sym s)
-        (call_made n call old new front last e l G (front_has (subst (All (Has old)) s h)) m.0 (c ∙ ap unless_unfit m.1)))
-      where
-        front_has : All (Has old) (front ++ last) → All (Has old) front
-        front_has k = All-front (Has old) front last k
+    pub names_put : (given : Result Expr (ExprFault V)) (result : Result (Unit {0}) (TextFault V)) → All (Has old) front → Grows old new → IsGiven r new given
+        → IsPut front given others result → AreMade p new others result
+    names_put (Ok e) (Ok u) h G m o =
+        subst (λ es. AreMade p new es (Ok tt)) (sym o) (made_behind old new front e G h m.0 p (i ∙ ap (put_behind (trees_of old front)) m.1))
+    names_put (Ok e) (Err fault) h G m o = no_room e fault o
+    names_put (Err f) (Ok u) h G m o = absurd o
+    names_put (Err f) (Err fault) h G m o = subst (IsRefusedBy p new) (sym o) (handed_on f m)
 
-    pub step_refused : (answer : Result (Term V) (Step V)) → call (trees_of old last) ≡ unless_unfit answer → length last ≡ n → names ≡ front ++ last
-        → (fault : ExprFault V) → IsMade new answer (Err fault) → IsRefusedBy (replaced n call (trees_of old names)) new (text_fault fault)
-    step_refused answer c l s fault m =
-        store_refused answer new (replaced n call (trees_of old names)) fault
-        (λ f e. ap (λ es. replaced n call (trees_of old es)) s ∙ call_refused n call old front last f l (c ∙ e)) m
-
-  module _ (R : WeightSet V) (same : V → V → Bool) (old new : List (Term V)) (names front : List Expr) (e : Expr) where
-    pub star_made : names ≡ front ++ e ∷ [] → All (Has old) names → Grows old new
-        → (d : Expr) (others : List Expr) → others ≡ front ++ d ∷ [] → IsStarMade new e (star_answer R (tree_of old e)) (Ok d)
-        → AreMade (replaced 1 (of_one (star_call R same)) (trees_of old names)) new others (Ok tt)
-    star_made s h G d others o m =
-        subst (λ es. AreMade (replaced 1 (of_one (star_call R same)) (trees_of old names)) new es (Ok tt)) (sym o)
-        (subst (λ es. AreMade (replaced 1 (of_one (star_call R same)) (trees_of old es)) new (front ++ d ∷ []) (Ok tt)) (sym s)
-        (call_made 1 (of_one (star_call R same)) old new front (e ∷ []) d refl G (All-front (Has old) front (e ∷ []) (subst (All (Has old)) s h)) m.0
-        (ap (unless_no_star (tree_of old e)) m.1)))
-
-    pub star_not_made : names ≡ front ++ e ∷ [] → All (Has old) names → Grows old new
-        → (fault : ExprFault V) → IsStarMade new e (star_answer R (tree_of old e)) (Err fault)
-        → IsRefusedBy (replaced 1 (of_one (star_call R same)) (trees_of old names)) new (text_fault fault)
-    star_not_made s h G fault m =
-        star_refused (star_answer R (tree_of old e)) new e (replaced 1 (of_one (star_call R same)) (trees_of old names)) fault (grown_has old new e G (last_has old names front e s h))
-        (λ f i. ap (λ es. replaced 1 (of_one (star_call R same)) (trees_of old es)) s
-        ∙ call_refused 1 (of_one (star_call R same)) old front (e ∷ []) f refl
-        (ap (λ t. unless_no_star t (star_answer R (tree_of old e))) (sym (grown_tree old new e G (last_has old names front e s h))) ∙ i)) m
+  -- its operands are the last names
+  pub names_replaced : (n : ℕ) (call : List (Term V) → Result (Term V) (BuildRefusal V)) (old new : List (Term V)) (names front last others : List Expr)
+      → (given : Result Expr (ExprFault V)) (result : Result (Unit {0}) (TextFault V)) → length last ≡ n → names ≡ front ++ last → All (Has old) names → Grows old new
+      → IsGiven (call (trees_of old last)) new given → IsPut front given others result → AreMade (replaced n call (trees_of old names)) new others result
+  names_replaced n call old new names front last others given result l s h G =
+      names_put (replaced n call (trees_of old names)) old new front others (call (trees_of old last))
+      (ap (λ es. replaced n call (trees_of old es)) s ∙ replaced_at n call old front last l) given result
+      (All-front (Has old) front last (subst (All (Has old)) s h)) G

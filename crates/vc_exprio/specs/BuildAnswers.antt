@@ -1,5 +1,5 @@
 -- What building answers, with names of the store.
-use Rattle.std.specs.Prelude.{◌≡◌, ℕ, Bool, List, [], ◌∷◌, Option, Result, Ok, Err, All, IsTrue, ⊤}
+use Rattle.std.specs.Prelude.{◌≡◌, ℕ, Bool, List, [], ◌∷◌, ◌++◌, Option, Result, Ok, Err, All, IsTrue, ⊤}
 use Rattle.std.specs.Option.{is_some}
 use Rattle.vc_expr.specs.Names.{Has, tree_of, trees_of}
 use Rattle.vc_expr.specs.declared.expr.Expr.{Expr}
@@ -46,3 +46,11 @@ AreMade p s names (Err fault) = IsRefusedBy p s fault
 abbrev pub IsMadeOne : {V : Type 0} → Progress V → List (Term V) → Result Expr (TextFault V) → Type 0
 IsMadeOne p s (Ok e) = Has s e × (p ≡ made (tree_of s e ∷ []))
 IsMadeOne p s (Err fault) = IsRefusedBy p s fault
+
+-- the name that a call of the store gave stands behind the others, or its refusal is handed on; want of memory is free
+abbrev pub IsPut : {V : Type 0} → List Expr → Result Expr (ExprFault V) → List Expr → Result (Unit {0}) (TextFault V) → Type 0
+IsPut names (Ok e) others (Ok u) = others ≡ names ++ e ∷ []
+IsPut names (Ok e) others (Err (Memory m)) = ⊤
+IsPut names (Ok e) others (Err fault) = ⊥
+IsPut names (Err fault) others (Ok u) = ⊥
+IsPut names (Err fault) others (Err other) = other ≡ text_fault fault

@@ -3,7 +3,7 @@ ghost use Rattle.std.specs.Prelude.{◌≡◌, ◌≤◌, ◌∷◌, ◌++◌, [
 ghost use Rattle.std.specs.Option.{is_some};
 ghost use Rattle.vc_expr.specs.Answers.{IsMade, sum_answer};
 ghost use Rattle.vc_expr.specs.Names.{Has, trees_of, Grows};
-ghost use Rattle.vc_exprio.specs.BuildAnswers.{IsBuildable, AreBuildable, AreMade, IsMadeOne};
+ghost use Rattle.vc_exprio.specs.BuildAnswers.{IsBuildable, AreBuildable, AreMade, IsMadeOne, IsPut};
 ghost use Rattle.vc_exprio.specs.Building.{BuildRefusal, atoms_of, sum_call, product_call, weight_call, star_call, both_call, shuffle_call};
 ghost use Rattle.vc_exprio.specs.Making.{more_parts, occurrences_in, of_one, of_two, replaced, put_behind, lacking, made_after, made_by};
 ghost use Rattle.vc_exprio.specs.Meaning as meaning;
@@ -58,6 +58,16 @@ fn push(names: &mut Vec<Expr>, name: Expr) -> Result<(), AllocError>
     ensures { OnOk result (names.new.items ≡ names.old.items ++ name ∷ []) }
 {
     Ok(names.push(name)?)
+}
+
+/// Puts the name that a call gave behind the others.
+fn put<V>(names: &mut Vec<Expr>, answer: Result<Expr, ExprFault<V>>) -> Result<(), TextFault<V>>
+    ensures { IsPut names.old.items answer names.new.items result }
+{
+    match answer {
+        Ok(name) => return Ok(push(names, name)?),
+        Err(fault) => return Err(TextFault::from(fault)),
+    }
 }
 
 /// A label: its first part, and the further ones, with which the steps after it begin.
@@ -134,9 +144,7 @@ fn build_star<L: LabelSet, S: Semiring>(
     ensures grows { Grows exprs.old exprs.new }
 {
     let operand = pop(names);
-    let e = exprs.star(operand)?;
-    push(names, e)?;
-    Ok(())
+    put(names, exprs.star(operand))
 }
 
 fn build_weight<L: LabelSet, S: Semiring>(
@@ -151,9 +159,7 @@ fn build_weight<L: LabelSet, S: Semiring>(
     ensures grows { Grows exprs.old exprs.new }
 {
     let operand = pop(names);
-    let e = exprs.weight(weight_of::<S>(weight), operand)?;
-    push(names, e)?;
-    Ok(())
+    put(names, exprs.weight(weight_of::<S>(weight), operand))
 }
 
 fn build_product<L: LabelSet, S: Semiring>(
@@ -167,10 +173,9 @@ fn build_product<L: LabelSet, S: Semiring>(
     ensures grows { Grows exprs.old exprs.new }
 {
     let first = names.len() - count;
-    let e = exprs.product(&names[first..])?;
+    let answer = exprs.product(&names[first..]);
     names.truncate(first);
-    push(names, e)?;
-    Ok(())
+    put(names, answer)
 }
 
 fn build_sum<L: LabelSet, S: Semiring>(
@@ -184,10 +189,9 @@ fn build_sum<L: LabelSet, S: Semiring>(
     ensures grows { Grows exprs.old exprs.new }
 {
     let first = names.len() - count;
-    let e = exprs.sum(&names[first..])?;
+    let answer = exprs.sum(&names[first..]);
     names.truncate(first);
-    push(names, e)?;
-    Ok(())
+    put(names, answer)
 }
 
 fn build_both<L: LabelSet, S: Semiring>(
@@ -202,9 +206,7 @@ fn build_both<L: LabelSet, S: Semiring>(
 {
     let second = pop(names);
     let first = pop(names);
-    let e = exprs.both(first, second)?;
-    push(names, e)?;
-    Ok(())
+    put(names, exprs.both(first, second))
 }
 
 fn build_shuffle<L: LabelSet, S: Semiring>(
@@ -219,9 +221,7 @@ fn build_shuffle<L: LabelSet, S: Semiring>(
 {
     let second = pop(names);
     let first = pop(names);
-    let e = exprs.shuffle(first, second)?;
-    push(names, e)?;
-    Ok(())
+    put(names, exprs.shuffle(first, second))
 }
 
 /// One step: one call of the store on the names that the last calls gave. `parts` is room for the
@@ -245,22 +245,15 @@ fn build_step<'t, L: LabelSet, S: Semiring>(
     ensures grows { Grows exprs.old exprs.new }
 {
     match step {
-        Step::Zero => {
-            let e = exprs.zero()?;
-            push(names, e)?;
-            return Ok(());
-        }
+        Step::Zero => return put(names, exprs.zero()),
         Step::Part(first) => {
-            let e = build_label(alloc, exprs, labels, first, after, parts)?;
-            push(names, e)?;
-            return Ok(());
+            return put(
+                names,
+                build_label(alloc, exprs, labels, first, after, parts),
+            );
         }
         Step::More(_) => return Ok(()),
-        Step::Class(class) => {
-            let e = build_class(alloc, exprs, labels, class)?;
-            push(names, e)?;
-            return Ok(());
-        }
+        Step::Class(class) => return put(names, build_class(alloc, exprs, labels, class)),
         Step::Group => return Ok(()),
         Step::Star => return build_star(exprs, names),
         Step::Weight(weight) => return build_weight(exprs, names, weight),

@@ -1,29 +1,16 @@
-use Rattle.std.proofs.Common.{rules, ◌≡◌, ◌∷◌, ◌++◌, [], ◌-◌, Err, List, length, drop, take, refl, sym, subst}
+use Rattle.std.proofs.Common.{rules, ◌≡◌, ◌-◌, List, length, drop, take, subst}
 use Rattle.vc_expr.specs.Answers.{product_answer}
 use Rattle.vc_expr.specs.Names.{trees_of}
 use Rattle.vc_expr.specs.declared.expr.Expr.{Expr}
-use Rattle.vc_exprio.specs.BuildAnswers.{text_fault, AreMade}
+use Rattle.vc_exprio.specs.BuildAnswers.{IsPut}
 use Rattle.vc_exprio.specs.Building.{product_call}
-use Rattle.vc_exprio.specs.Making.{replaced}
-use Rattle.vc_exprio.proofs.StackNames.{step_made, step_refused, IsLast, slice_is_last}
+use Rattle.vc_exprio.proofs.StackNames.{IsLast, given_made, names_replaced, slice_is_last}
 use Rattle.vc_exprio.proofs.build.build_product.Goals as goal
-
-pub returns-in_err-e-clause-answer : goal.returns-in_err-e-clause-answer
-returns-in_err-e-clause-answer g c =
-    let old = c.args.exprs.now in
-    let names : List Expr = c.args.names.now.items in
-    let lent : c.deref.result.now ≡ names = search rules in
-    let many : c.len.result ≡ length names = search rules in
-    let last = take (length c.deref.result.now - (c.len.result - c.args.count)) (drop (c.len.result - c.args.count) c.deref.result.now) in
-    let cut : IsLast names c.args.count last = slice_is_last names c.deref.result.now c.len.result c.args.count lent many c.requires.enough in
-    let call = product_call g.S.Semiring.set g.S.Value.PartialEq.eq in
-    let is : c.from_residual.result ≡ Err (text_fault c.in_err-e.field-0.0) = search rules in
-    subst (AreMade (replaced c.args.count call (trees_of old names)) c.product.new.self names) (sym is)
-    (step_refused c.args.count call old c.product.new.self names (take (length names - c.args.count) names) last (product_answer g.S.Semiring.set g.S.Value.PartialEq.eq (trees_of old last)) refl
-    cut.many cut.cut c.in_err-e.field-0.0 c.in_err-e.ensures.answer)
 
 pub returns-clause-answer : goal.returns-clause-answer
 returns-clause-answer g c =
+    let R = g.S.Semiring.set in
+    let same = g.S.Value.PartialEq.eq in
     let old = c.args.exprs.now in
     let names : List Expr = c.args.names.now.items in
     let lent : c.deref.result.now ≡ names = search rules in
@@ -31,6 +18,7 @@ returns-clause-answer g c =
     let last = take (length c.deref.result.now - (c.len.result - c.args.count)) (drop (c.len.result - c.args.count) c.deref.result.now) in
     let cut : IsLast names c.args.count last = slice_is_last names c.deref.result.now c.len.result c.args.count lent many c.requires.enough in
     let front : c.truncate.new.self.items ≡ take (length names - c.args.count) names = search rules in
-    let pushed : c.push.new.names.items ≡ take (length names - c.args.count) names ++ c.in_ok-e.e ∷ [] = subst (λ es. c.push.new.names.items ≡ es ++ c.in_ok-e.e ∷ []) front c.in_ok-push.ensures in
-    step_made c.args.count (product_call g.S.Semiring.set g.S.Value.PartialEq.eq) old c.product.new.self names (take (length names - c.args.count) names) last (product_answer g.S.Semiring.set g.S.Value.PartialEq.eq (trees_of old last)) refl
-    cut.many cut.cut c.requires.names c.in_ok-e.ensures.grows c.in_ok-e.e c.push.new.names.items pushed c.in_ok-e.ensures.answer
+    let put : IsPut (take (length names - c.args.count) names) c.product-answer.result c.put.new.names.items c.put.result =
+    subst (λ es. IsPut es c.product-answer.result c.put.new.names.items c.put.result) front c.put.ensures in
+    names_replaced c.args.count (product_call R same) old c.product-answer.new.self names (take (length names - c.args.count) names) last c.put.new.names.items c.product-answer.result c.put.result
+    cut.many cut.cut c.requires.names c.product-answer.ensures.grows (given_made (product_answer R same (trees_of old last)) c.product-answer.new.self c.product-answer.result c.product-answer.ensures.answer) put

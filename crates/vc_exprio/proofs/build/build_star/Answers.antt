@@ -1,24 +1,18 @@
-use Rattle.std.proofs.Common.{rules, ◌≡◌, ◌∷◌, ◌++◌, [], Err, sym, subst}
-use Rattle.vc_exprio.specs.BuildAnswers.{text_fault, AreMade}
+use Rattle.std.proofs.Common.{[], ◌∷◌, refl}
+use Rattle.vc_expr.specs.Answers.{star_answer}
+use Rattle.vc_expr.specs.Names.{tree_of}
 use Rattle.vc_exprio.specs.Building.{star_call}
-use Rattle.vc_exprio.specs.Making.{of_one, replaced}
-use Rattle.vc_expr.specs.Names.{trees_of}
-use Rattle.vc_exprio.proofs.StackNames.{star_made, star_not_made}
+use Rattle.vc_exprio.specs.Making.{of_one}
+use Rattle.vc_exprio.proofs.StackNames.{given_star, last_has, names_replaced}
 use Rattle.vc_exprio.proofs.build.build_star.Goals as goal
-
-pub returns-in_err-e-clause-answer : goal.returns-in_err-e-clause-answer
-returns-in_err-e-clause-answer g c =
-    let R = g.S.Semiring.set in
-    let same = g.S.Value.PartialEq.eq in
-    let old = c.args.exprs.now in
-    let names = c.args.names.now.items in
-    let is : c.from_residual.result ≡ Err (text_fault c.in_err-e.field-0.0) = search rules in
-    subst (AreMade (replaced 1 (of_one (star_call R same)) (trees_of old names)) c.star.new.self c.pop-operand.new.names.items) (sym is)
-    (star_not_made R same old c.star.new.self names c.pop-operand.new.names.items c.pop-operand.result c.pop-operand.ensures c.requires.names c.in_err-e.ensures.grows
-    c.in_err-e.field-0.0 c.in_err-e.ensures.answer)
 
 pub returns-clause-answer : goal.returns-clause-answer
 returns-clause-answer g c =
-    let pushed : c.push.new.names.items ≡ c.pop-operand.new.names.items ++ c.in_ok-e.e ∷ [] = search rules in
-    star_made g.S.Semiring.set g.S.Value.PartialEq.eq c.args.exprs.now c.star.new.self c.args.names.now.items c.pop-operand.new.names.items c.pop-operand.result
-    c.pop-operand.ensures c.requires.names c.in_ok-e.ensures.grows c.in_ok-e.e c.push.new.names.items pushed c.in_ok-e.ensures.answer
+    let R = g.S.Semiring.set in
+    let old = c.args.exprs.now in
+    let names = c.args.names.now.items in
+    let front = c.pop-operand.new.names.items in
+    let e = c.pop-operand.result in
+    names_replaced 1 (of_one (star_call R g.S.Value.PartialEq.eq)) old c.star.new.self names front (e ∷ []) c.put.new.names.items c.star.result c.put.result
+    refl c.pop-operand.ensures c.requires.names c.star.ensures.grows
+    (given_star (star_answer R (tree_of old e)) old c.star.new.self e c.star.result c.star.ensures.grows (last_has old names front e c.pop-operand.ensures c.requires.names) c.star.ensures.answer) c.put.ensures
