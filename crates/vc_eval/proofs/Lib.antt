@@ -4,6 +4,7 @@ pub mod Places
 pub mod Pushes
 pub mod Sources
 pub mod LetterSources
+pub mod ReadingLaws
 pub mod IdleStates
 pub mod Fronts
 pub mod Targets

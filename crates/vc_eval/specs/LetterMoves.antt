@@ -1,16 +1,15 @@
 -- How transitions whose labels are single letters lead from one row to the next.
-use Rattle.std.specs.Prelude.{◌≡◌, ◌≢◌, ℕ, ◌<◌, ◌≤◌, ◌+◌, IsTrue, List, [], ◌∷◌, Option, None, Some, length, ◌==◌, if◌then◌else◌}
+use Rattle.std.specs.Prelude.{◌≡◌, ◌≢◌, ℕ, ◌<◌, ◌≤◌, ◌+◌, IsTrue, List, Option, None, Some, length, ◌==◌, if◌then◌else◌}
 use Rattle.vc_model.specs.WeightSet.{WeightSet}
 use Rattle.vc_model.specs.Letters.{letter_of, HasLetters}
 use Rattle.vc_model.specs.Words.{Word, size}
 use Rattle.vc_model.specs.Automata.{Automaton, Transition}
 use Rattle.vc_eval.specs.Moves.{entry, earlier}
 
--- a transition with one letter and a weight in range, whose target has a cell in the row that begins at a cell
-pub record IsLetterMove {V : Type 0} (R : WeightSet V) (at cells : ℕ) (u : Transition V) : Type 0 where
+-- a transition with a weight in range, whose target has a cell in the row that begins at a cell
+pub record IsMoveInto {V : Type 0} (R : WeightSet V) (at cells : ℕ) (u : Transition V) : Type 0 where
   pub to : at + u.to < cells
   pub weight : IsTrue (R.in_range u.weight)
-  pub label : u.label ≡ (letter_of u ∷ []) ∷ []
 
 -- what a transition with the letter x multiplies: the entry at its source in the row that begins at a cell
 abbrev pub by_letter : {V : Type 0} → WeightSet V → ℕ → ℕ → List V → Transition V → Option V
@@ -19,6 +18,10 @@ by_letter R x before rows u = if letter_of u == x then Some (entry R rows (befor
 -- the same where this entry is v
 abbrev pub with_letter : {V : Type 0} → ℕ → V → List V → Transition V → Option V
 with_letter x v rows u = if letter_of u == x then Some v else None
+
+-- what each transition multiplies where this is v
+abbrev pub carried : {V : Type 0} → V → List V → Transition V → Option V
+carried v rows u = Some v
 
 -- two rows of n entries that do not meet
 pub record AreApart (n before at cells : ℕ) : Type 0 where

@@ -1,20 +1,20 @@
 use Rattle.std.proofs.Common.{length, sym, ◌∙◌, subst}
 use Rattle.std.proofs.lemmas.Result.{err_from_is_err_and}
 use Rattle.vc_aut.specs.Stored.{transition_of}
-use Rattle.vc_eval.specs.LetterMoves.{IsLetterMove, with_letter}
+use Rattle.vc_eval.specs.LetterMoves.{IsMoveInto, carried}
 use Rattle.vc_eval.proofs.Pushes.{bring_steps, bring_rows, bring_err, All-item}
 use Rattle.vc_eval.proofs.letters.push.Goals as goal
 
-pub bring-requires-clause-to_letter : goal.bring-requires-clause-to_letter
-bring-requires-clause-to_letter g c =
+pub bring-requires-clause-into : goal.bring-requires-clause-into
+bring-requires-clause-into g c =
     let R = g.S.Semiring.set in
-    subst (λ n. IsLetterMove R c.args.at n (transition_of g.L.LabelSet.parts c.transition-item.result)) (sym c.loop-transition.auto.rows)
-    (All-item (IsLetterMove R c.args.at (length c.args.rows.now)) (transition_of g.L.LabelSet.parts) c.args.transitions.now c.loop-transition.transition-index c.transition-item.result c.requires.moves c.loop-transition-test.true c.transition-item.is)
+    subst (λ n. IsMoveInto R c.args.at n (transition_of g.L.LabelSet.parts c.transition-item.result)) (sym c.loop-transition.auto.rows)
+    (All-item (IsMoveInto R c.args.at (length c.args.rows.now)) (transition_of g.L.LabelSet.parts) c.args.transitions.now c.loop-transition.transition-index c.transition-item.result c.requires.moves c.loop-transition-test.true c.transition-item.is)
 
 pub loop-transition-preserved : goal.loop-transition-preserved
 loop-transition-preserved g c =
     let R = g.S.Semiring.set in
-    let h = with_letter c.args.letter c.args.from in
+    let h = carried c.args.from in
     let f = transition_of g.L.LabelSet.parts in
     let i = c.loop-transition.transition-index in
     record {
@@ -26,7 +26,7 @@ loop-transition-preserved g c =
 pub returns-in_err-bring-clause-steps : goal.returns-in_err-bring-clause-steps
 returns-in_err-bring-clause-steps g c =
     let R = g.S.Semiring.set in
-    let h = with_letter c.args.letter c.args.from in
+    let h = carried c.args.from in
     let p = err_from_is_err_and c.from_residual.result c.from_residual.ensures.1 in
     rw (p.1, p.2)
     (sym (bring_err R h c.args.at (transition_of g.L.LabelSet.parts) c.args.transitions.now c.loop-transition.transition-index c.transition-item.result c.loop-transition.rows c.in_err-bring.field-0.0 c.loop-transition-test.true c.transition-item.is (sym c.in_err-bring.ensures.steps))

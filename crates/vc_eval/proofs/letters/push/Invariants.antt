@@ -1,6 +1,6 @@
 use Rattle.std.proofs.Common.{◌≡◌, map, drop}
 use Rattle.vc_aut.specs.Stored.{transition_of}
-use Rattle.vc_eval.specs.LetterMoves.{with_letter}
+use Rattle.vc_eval.specs.LetterMoves.{carried}
 use Rattle.vc_eval.specs.Moves.{moved, move_steps}
 use Rattle.vc_model.specs.WeightSet.{InRange}
 use Rattle.vc_ring.specs.Steps.{outcome}
@@ -10,7 +10,7 @@ use Rattle.vc_eval.proofs.letters.push.Given as goal
 abbrev pub invariant-loop-transition : goal.invariant-loop-transition
 invariant-loop-transition g l =
     let R = g.S.Semiring.set in
-    let h = with_letter l.letter l.from in
+    let h = carried l.from in
     let all = map (transition_of g.L.LabelSet.parts) l.transitions in
     let rest = drop l.transition-index all in (
     record {

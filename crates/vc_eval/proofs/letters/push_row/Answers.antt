@@ -1,13 +1,19 @@
 use Rattle.std.proofs.Common.{◌≡◌, ◌<◌, ◌+◌, ◌==◌, All, filter, length, ap, sym, ◌∙◌, subst, arith}
 use Rattle.std.proofs.lemmas.List.{get_or_default}
 use Rattle.std.proofs.lemmas.Result.{err_from_is_err_and}
+use Rattle.std.specs.List.Sorted.{IsStrictlySortedBy}
+use Rattle.vc_aut.specs.Order.{move_order}
+use Rattle.vc_aut.specs.Stored.{transition_of}
+use Rattle.vc_model.specs.Letters.{letter_of}
+use Rattle.vc_model.specs.Lists.{In}
 use Rattle.vc_model.specs.Members.{In-filter_from}
 use Rattle.vc_model.specs.WeightSet.{InRange}
 use Rattle.vc_ring.specs.Steps.{outcome}
-use Rattle.vc_eval.specs.LetterMoves.{IsLetterMove, by_letter, with_letter}
+use Rattle.vc_eval.specs.LetterMoves.{IsMoveInto, by_letter, with_letter}
 use Rattle.vc_eval.specs.Moves.{entry, moved, move_steps}
 use Rattle.vc_eval.proofs.LetterSources.{from_state, zero_moved, zero_steps, unequal}
-use Rattle.vc_eval.proofs.Sources.{from_states, All_from, push_rows, push_ok, push_err}
+use Rattle.vc_eval.proofs.Sources.{from_states, All_of, push_rows, push_ok, push_err}
+use Rattle.vc_eval.proofs.ReadingLaws.{as_read, letters_rise}
 use Rattle.vc_eval.proofs.letters.push_row.Goals as goal
 use Rattle.vc_eval.proofs.letters.push_row.Goals.{then-ne+in_ok-push, else-ne}
 
@@ -18,12 +24,24 @@ push-requires-clause-moves g c =
     let at = c.args.at in
     let n : length c.args.rows.now ≡ length c.loop-s.rows = sym c.loop-s.auto.rows in
     let inside = c.requires.apart.inside in
-    subst (λ us. All (IsLetterMove R at (length c.loop-s.rows)) us) (sym c.transitions_from.ensures)
-    (subst (λ k. All (IsLetterMove R at k) (filter (λ u. u.from == c.loop-s.s) A.transitions)) n
-    (All_from (IsLetterMove R at (length c.args.rows.now)) A.transitions c.loop-s.s (λ u i.
+    let x = c.args.letter in
+    let own = filter (λ u. u.from == c.loop-s.s) A.transitions in
+    let read = c.reading-read.ensures ∙ ap (filter (λ u. letter_of u == x)) c.transitions_from.ensures in
+    subst (λ us. All (IsMoveInto R at (length c.loop-s.rows)) us) (sym read)
+    (subst (λ k. All (IsMoveInto R at k) (filter (λ u. letter_of u == x) own)) n
+    (All_of (IsMoveInto R at (length c.args.rows.now)) (filter (λ u. letter_of u == x) own) (λ u j.
+    let i = (In-filter_from (λ u. u.from == c.loop-s.s) u A.transitions (In-filter_from (λ u. letter_of u == x) u own j).0).0 in
     let m = c.automata_are_valid.ensures.moves u i in
     let to = m.to in
-    record { to = omega (arith, to, inside); weight = m.weight; label = c.requires.letters u i })))
+    record { to = omega (arith, to, inside); weight = m.weight })))
+
+pub reading-read-requires : goal.reading-read-requires
+reading-read-requires g c =
+    let A = c.args.aut.now.automaton in
+    let own = filter (λ u. u.from == c.loop-s.s) A.transitions in
+    letters_rise (transition_of g.L.LabelSet.parts) c.transitions_from.result.now
+    (subst (IsStrictlySortedBy move_order) (sym c.transitions_from.ensures) (c.transitions_are_in_order.ensures.moves A.transitions c.loop-s.s c.automata_are_valid.ensures.labelled.drawn.order))
+    (λ u i. c.requires.letters u (In-filter_from (λ u. u.from == c.loop-s.s) u A.transitions (subst (λ us. In u us) c.transitions_from.ensures i)).0)
 
 pub returns-in_err-push-clause-steps : goal.returns-in_err-push-clause-steps
 returns-in_err-push-clause-steps g c =
@@ -42,7 +60,7 @@ returns-in_err-push-clause-steps g c =
     rw (p.1, p.2)
     (sym (push_err R (by_letter R x before) at A.transitions s A.states below rows c.in_err-push.field-0.0
     (ap (λ ss. outcome R ss (tt {0})) own.1
-    ∙ ap (λ us. outcome R (move_steps R (with_letter x v) at us rows) (tt {0})) (sym c.transitions_from.ensures) ∙ sym c.in_err-push.ensures.steps))
+    ∙ ap (λ ss. outcome R ss (tt {0})) (sym (as_read R at x v _ (filter (λ u. u.from == s) A.transitions) rows (c.reading-read.ensures ∙ ap (filter (λ u. letter_of u == x)) c.transitions_from.ensures)).1) ∙ sym c.in_err-push.ensures.steps))
     ∙ c.loop-s.invariant.steps)
 
 pub loop-s-preserved : goal.loop-s-preserved
@@ -63,10 +81,10 @@ loop-s-preserved g c =
     let own = from_state R at x before s v A.transitions rows same (λ u i. c.requires.apart.apart s u.to below (c.automata_are_valid.ensures.moves u i).to) in
     elim c.if-ne.branch [
       | then-ne+in_ok-push w ↦
+          let read = as_read R at x v _ here rows (w.reading-read.ensures ∙ ap (filter (λ u. letter_of u == x)) w.transitions_from.ensures) in
           let brought : c.if-ne.rows ≡ moved R h at here rows
-          = w.rows-is ∙ w.in_ok-push.ensures.rows ∙ ap (λ us. moved R (with_letter x v) at us rows) w.transitions_from.ensures ∙ sym own.0 in
-          let fit = ap (λ ss. outcome R ss (tt {0})) own.1
-          ∙ ap (λ us. outcome R (move_steps R (with_letter x v) at us rows) (tt {0})) (sym w.transitions_from.ensures) ∙ sym w.in_ok-push.ensures.steps in
+          = w.rows-is ∙ w.in_ok-push.ensures.rows ∙ read.0 ∙ sym own.0 in
+          let fit = ap (λ ss. outcome R ss (tt {0})) own.1 ∙ ap (λ ss. outcome R ss (tt {0})) (sym read.1) ∙ sym w.in_ok-push.ensures.steps in
           record {
             in_range = subst (InRange R) (sym w.rows-is) w.push.ensures.rows_in;
             steps = ap (λ new. outcome R (move_steps R h at rest new) (tt {0})) brought ∙ sym (push_ok R h at A.transitions s A.states below rows fit) ∙ c.loop-s.invariant.steps;

@@ -1,4 +1,4 @@
-use Rattle.std.proofs.Common.{◌≡◌, length, map, sym, ◌∙◌}
+use Rattle.std.proofs.Common.{◌≡◌, length, map, sym}
 use Rattle.vc_aut.specs.Stored.{transition_of}
 use Rattle.vc_label.specs.Borrowed.{word_of}
 use Rattle.vc_eval.specs.Moves.{IsMoveHere, source}

@@ -1,7 +1,7 @@
-use Rattle.std.proofs.Common.{◌≡◌, ℕ, ◌<◌, ◌≤◌, ◌+◌, ◌*◌, length, ap, sym, ◌∙◌, arith}
+use Rattle.std.proofs.Common.{◌≡◌, ◌+◌, sym, ◌∙◌, arith}
 use Rattle.std.proofs.lemmas.List.{get_or_default}
 use Rattle.vc_eval.specs.Moves.{entry}
-use Rattle.vc_eval.proofs.IdleStates.{IsSeen, seen_more, seen_all}
+use Rattle.vc_eval.proofs.IdleStates.{seen_more, seen_all}
 use Rattle.vc_eval.proofs.LetterSources.{unequal}
 use Rattle.vc_eval.proofs.rows.is_idle.Goals as goal
 
