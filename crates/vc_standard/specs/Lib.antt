@@ -1,0 +1,14 @@
+pub mod Structures
+pub mod Within
+pub mod Laws
+pub mod Given
+pub mod Automata
+pub mod Counts
+pub mod Closed
+pub mod Steps
+pub mod Named
+pub mod Refusals
+pub mod Found
+pub mod Work
+pub mod Stored
+pub mod Shapes
