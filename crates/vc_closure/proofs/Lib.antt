@@ -1,0 +1,17 @@
+pub mod Places
+pub mod Marks
+pub mod Walks
+pub mod Causes
+pub mod Underway
+pub mod Closings
+pub mod LastMatrix
+pub mod Ascending
+pub mod EntrySteps
+pub mod RowSums
+pub mod Pairs
+pub mod Ordered
+pub mod Bringing
+pub mod TripleOrder
+pub mod BroughtSteps
+pub mod Unchanged
+pub mod Matrices

@@ -1,0 +1,16 @@
+//! Empty circuits of automata, and automata without empty labels.
+#![tactic(auto)]
+
+mod bring;
+mod circuits;
+mod closure;
+mod fault;
+mod laws;
+mod rounds;
+mod rows;
+mod search;
+
+pub use circuits::{circuit_empty_on, empty_circuit};
+pub use closure::proper;
+pub use fault::ProperFault;
+pub use laws::closings_keep_futures;
