@@ -6,3 +6,4 @@ pub mod Loose
 pub mod Walks
 pub mod Parses
 pub mod Spelled
+pub mod Ranges

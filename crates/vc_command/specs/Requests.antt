@@ -1,5 +1,5 @@
 -- The requests, and the one that words give.
-use Rattle.std.specs.Prelude.{◌==◌, ◌&&◌, ℕ, List, [], ◌∷◌, Option, Some, None, option_map, option_and_then, codes, nat_le, if◌then◌else◌}
+use Rattle.std.specs.Prelude.{◌==◌, ◌&&◌, ◌≤◌, ℕ, List, [], ◌∷◌, Option, Some, None, option_map, option_and_then, codes, nat_le, if◌then◌else◌, ⊤}
 use Rattle.std.specs.List.{slice_split}
 use Rattle.std.specs.Str.{bytes_eq}
 use Rattle.vc_num.specs.Decimals.{is_numeral, number_of_digits}
@@ -130,3 +130,19 @@ line_request line = words_request line.plain line.limits line.orders
 -- the request of the words
 unfoldable pub request_of : List Text → Option Asked
 request_of words = option_and_then line_request (line_of words)
+
+-- ---- limits
+
+-- a limit of states
+abbrev pub IsLimit : ℕ → Type 0
+IsLimit n = (1 ≤ n) × (n ≤ 1000000)
+
+-- the request has such a limit, where its command names one
+abbrev pub HasLimit : Asked → Type 0
+HasLimit (standard over text n) = IsLimit n
+HasLimit (derived over text n) = IsLimit n
+HasLimit (conjunction first second n) = IsLimit n
+HasLimit (shuffle first second n) = IsLimit n
+HasLimit (compose first second n) = IsLimit n
+HasLimit (determinize file n) = IsLimit n
+HasLimit other = ⊤

@@ -7,5 +7,5 @@ mod line;
 mod number;
 mod request;
 
-pub use law::lines_are_spelled;
+pub use law::{limits_are_in_range, lines_are_spelled};
 pub use request::{Request, RequestFault, request_of};
