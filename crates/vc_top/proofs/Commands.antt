@@ -1,7 +1,14 @@
 -- What each command answers is lawful: a line for each command.
 use Rattle.std.proofs.Common.{◌≡◌, ◌∙◌, ℕ, List, Bool, true, false, ℤ, Option, None, Some, Result, Ok, Err, refl, sym, ap, ap₂, subst, inl, inr}
 use Rattle.std.specs.Prelude.{nat_lt, if◌then◌else◌}
+use Rattle.std.specs.Cmp.{IsTotalOrder}
 use Rattle.vc_aut.specs.Labelled.{Labelled}
+use Rattle.vc_basic.specs.ResidueLaws.{residue_laws}
+use Rattle.vc_basic.specs.TropicalLaws.{tropical_laws}
+use Rattle.vc_basic.specs.TruthLaws.{truth_laws}
+use Rattle.vc_basic.specs.WholeLaws.{whole_laws}
+use Rattle.vc_label.specs.Order.{word_order}
+use Rattle.vc_rat.specs.RationalLaws.{rational_laws}
 use Rattle.vc_command.specs.Requests.{Asked}
 use Rattle.vc_command.specs.Requests as asked
 use Rattle.vc_context.specs.Spelling.{SpellsContext}
@@ -21,19 +28,22 @@ use Rattle.vc_ring.specs.Texts.{WeightTexts}
 use Rattle.vc_ring.specs.declared.faults.Limit.{Limit as PastLimit}
 use Rattle.vc_ring.specs.declared.faults.MakeFault.{MakeFault}
 use Rattle.vc_ring.specs.declared.faults.MakeFault.TheVariants as fault
-use Rattle.vc_ring.specs.declared.faults.Measure.TheVariants.{Cells, Bytes as BytesOf}
+use Rattle.vc_ring.specs.declared.faults.Measure.TheVariants.{Cells, States, Bytes as BytesOf}
+use Rattle.vc_top.specs.Answers.{IsPastReason}
 use Rattle.vc_top.specs.Automata.{AnswersCat, IsTextOf, Prints}
 use Rattle.vc_top.specs.Contexts.{AnswersContext, IsContext}
 use Rattle.vc_top.specs.Evaluations.{AnswersEval, ReadsProper, ReadsWord, cells_of}
 use Rattle.vc_top.specs.Expressions.{AnswersExpr, AnswersExprOver, IsExpressionText, PrintsExpression, ReadsExpression, are_single, text_reason}
 use Rattle.vc_top.specs.Inputs.{Input}
 use Rattle.vc_top.specs.Outcomes.{Gives, Outcome}
-use Rattle.vc_top.specs.Plans.{IsOpen, Plan, of_file, of_files, of_texts, plan_of, unbuilt}
+use Rattle.vc_top.specs.Plans.{IsLoose, IsOpen, Plan, of_file, of_files, of_texts, plan_of, unbuilt}
 use Rattle.vc_top.specs.Reasons.{Reason, contexts, in_context, in_word, limit, no_label, overflow, syntax, unread, unwritten, usage}
 use Rattle.vc_top.specs.Refused.{UnlessCause, make_reason}
-use Rattle.vc_top.specs.Sets.{texts_of, value_of}
+use Rattle.vc_top.specs.Sets.{texts_of, value_of, truth_weights, residue_weights, whole_weights, fraction_weights, tropical_weights}
+use Rattle.vc_top.specs.Standards.{AnswersEvalText, AnswersStandard, AnswersValue, IsOfConstruction, IsStandard, IsUnmade, WithStandard, most_states}
 use Rattle.vc_top.specs.declared.refusal.Bound.TheVariants.{Of}
-use Rattle.vc_top.proofs.Lawful.{Alike, IsKept, IsLawful, after, any, for_such, gives, provided, unless, with_one}
+use Rattle.vc_top.proofs.Lawful.{Alike, Freedom, IsKept, IsLawful, after, any, decided, for_such, gives, may, unless, with_one}
+use Rattle.vc_top.proofs.OneStandard.{standard_once}
 
 -- the reasons of what is read in words, and of operations; a text may have too many bytes
 abbrev pub IsWordReason : Reason → Type 0
@@ -57,11 +67,11 @@ abbrev limited : {V : Type 0} → PastLimit → MakeFault V
 limited l = fault.Limit l
 
 -- rows have cells
-cells_text : {V : Type 0} (n : ℕ) (f : MakeFault V) → refusal_of n ≡ Some f → IsTextReason (make_reason f)
-cells_text {V} n f e = go (nat_lt 20000000 n) e
+cells_own : {V : Type 0} (Own : Reason → Type 0) → Own (limit (Of Cells)) → (n : ℕ) (f : MakeFault V) → refusal_of n ≡ Some f → Own (make_reason f)
+cells_own {V} Own o n f e = go (nat_lt 20000000 n) e
   where
-    go : (b : Bool) → (if b then Some (limited {V = V} (record { what = Cells; most = 20000000 })) else None) ≡ Some f → IsTextReason (make_reason f)
-    go true h = subst (λ x. IsTextReason (make_reason x)) (some_same (Some f) (fault.Limit (record { what = Cells; most = 20000000 })) f (sym h) refl) tt
+    go : (b : Bool) → (if b then Some (limited {V = V} (record { what = Cells; most = 20000000 })) else None) ≡ Some f → Own (make_reason f)
+    go true h = subst (λ x. Own (make_reason x)) (some_same (Some f) (fault.Limit (record { what = Cells; most = 20000000 })) f (sym h) refl) o
     go false h = absurd (cc h)
 
 -- a text spells at most one context
@@ -82,13 +92,14 @@ OneAnswer V = (T : WeightTexts V) (single : Bool) (sets : List TapeSet) (text : 
 
 -- a text spells at most one context, and at most one word; as an expression it has at most one answer
 pub record AreTexts : Type 0 where
+  pub total : IsTotalOrder word_order
   pub context : (text : Bytes) (c d : List TapeSet × Weights) → IsContext text c → IsContext text d → c ≡ d
   pub word : OneWord
   pub expression : (w : Weights) → OneAnswer (value_of w)
 
-pub texts_are : ((text : Bytes) (sets others : List TapeSet) (weights other : Weights) → SpellsContext text sets weights → SpellsContext text others other → (sets ≡ others) × (weights ≡ other)) → OneWord
+pub texts_are : ((text : Bytes) (sets others : List TapeSet) (weights other : Weights) → SpellsContext text sets weights → SpellsContext text others other → (sets ≡ others) × (weights ≡ other)) → IsTotalOrder word_order → OneWord
     → OneAnswer Bool → OneAnswer ℤ → OneAnswer Fraction → OneAnswer NminValue → AreTexts
-texts_are context word truths wholes fractions costs = record { context = one_context context; word = word; expression = expression }
+texts_are context total word truths wholes fractions costs = record { total = total; context = one_context context; word = word; expression = expression }
   where
     expression : (w : Weights) → OneAnswer (value_of w)
     expression B = truths
@@ -97,14 +108,23 @@ texts_are context word truths wholes fractions costs = record { context = one_co
     expression Q = fractions
     expression Nmin = costs
 
-module _ (Open : Type 0) where
+module _ (Own : Reason → Type 0) (Open : Freedom) where
   -- an operation that is refused for a cause
-  cause : {V Y : Type 0} (c : Option (MakeFault V)) (R : Outcome Y) → ((f : MakeFault V) → c ≡ Some f → IsTextReason (make_reason f)) → IsLawful IsTextReason Open R → IsLawful IsTextReason Open (UnlessCause c R)
-  cause {V} c R o l = any IsTextReason Open (λ (f : MakeFault V). c ≡ Some f) make_reason R o (λ f g e h. inr (inl (ap (λ x. Err (make_reason x)) (some_same c f g e h)))) (λ n. l)
+  cause : {V Y : Type 0} (c : Option (MakeFault V)) (R : Outcome Y) → ((f : MakeFault V) → c ≡ Some f → Own (make_reason f)) → IsLawful Own Open R → IsLawful Own Open (UnlessCause c R)
+  cause {V} c R o l = any Own Open (λ (f : MakeFault V). c ≡ Some f) make_reason R o (λ f g e h. inr (inl (ap (λ x. Err (make_reason x)) (some_same c f g e h)))) (λ n. l)
 
-  word : OneWord → (sets : List TapeSet) (text : Bytes) → IsLawful IsTextReason Open (ReadsWord sets text)
-  word one sets text = with_one IsTextReason Open (SpellsWord text) (syntax in_word) _ (one text) tt (λ w. unless IsTextReason Open _ (no_label in_word) _ tt (gives IsTextReason Open w))
+  word : Own (syntax in_word) → Own (no_label in_word) → OneWord → (sets : List TapeSet) (text : Bytes) → IsLawful Own Open (ReadsWord sets text)
+  word s n one sets text = with_one Own Open (SpellsWord text) (syntax in_word) _ (one text) s (λ w. unless Own Open _ (no_label in_word) _ n (gives Own Open w))
 
+  -- the text of an automaton
+  prints : {V : Type 0} (T : WeightTexts V) (weights : Weights) (a : Labelled V) → IsLawful Own Open (Prints T weights a)
+  prints T weights a = for_such Own Open (IsTextOf T weights a) Gives (λ x y p q. p.canonical ∙ sym q.canonical) (λ text. gives Own Open text)
+
+  -- the value of an automaton
+  valued : {V : Type 0} (T : WeightTexts V) → Own (limit (Of Cells)) → Own overflow → (w : Word) (v : V) (a : Labelled V) → IsLawful Own Open (AnswersValue T w v a)
+  valued T cells step w v a = cause _ _ (cells_own Own cells (cells_of a.sets a.automaton w)) (unless Own Open _ overflow _ step (gives Own Open _))
+
+module _ (Open : Freedom) where
   context : AreTexts → (text : Bytes) → IsLawful IsWordReason Open (AnswersContext text)
   context one text = with_one IsWordReason Open (IsContext text) (syntax in_context) _ (one.context text) tt (λ c. gives IsWordReason Open _)
 
@@ -139,50 +159,93 @@ module _ {V : Type 0} (T : WeightTexts V) (one : OneAnswer V) (sets : List TapeS
   expression_kept (Ok t) p = tt
   expression_kept (Err reason) p = subst IsWordReason (sym p.2) (refusal_kept p.0)
 
-  expressions_agree : (a b : Result (Term V) Reason) → ReadsExpression T sets text a → ReadsExpression T sets text b → Alike ⊥ a b
+  expressions_agree : (a b : Result (Term V) Reason) → ReadsExpression T sets text a → ReadsExpression T sets text b → Alike decided a b
   expressions_agree (Ok t) (Ok u) p q = inr (inl (ap Ok (same_term t u (one T (are_single sets) sets text (Ok t) (Ok u) p.0 q.0))))
   expressions_agree (Ok t) (Err r) p q = absurd (no_term t q.0 (one T (are_single sets) sets text (Ok t) (Err q.0) p.0 q.1))
   expressions_agree (Err r) (Ok u) p q = absurd (no_term u p.0 (one T (are_single sets) sets text (Ok u) (Err p.0) q.0 p.1))
   expressions_agree (Err r) (Err s) p q = inr (inl (ap Err (p.2 ∙ ap text_reason (same_refusal p.0 q.0 (one T (are_single sets) sets text (Err p.0) (Err q.0) p.1 q.1)) ∙ sym q.2)))
 
-  expression : IsLawful IsWordReason ⊥ (ReadsExpression T sets text)
+  expression : IsLawful IsWordReason decided (ReadsExpression T sets text)
   expression = record { kept = expression_kept; one = expressions_agree }
 
-  printed : (Open : Type 0) (t : Term V) → IsLawful IsWordReason Open (PrintsExpression T sets t)
+  printed : (Open : Freedom) (t : Term V) → IsLawful IsWordReason Open (PrintsExpression T sets t)
   printed Open t = for_such IsWordReason Open (IsExpressionText T sets t) _ (λ x y p q. p.canonical ∙ sym q.canonical) (λ x. gives IsWordReason Open _)
 
-  expr_over : (Open : Type 0) → IsLawful IsWordReason Open (AnswersExprOver T sets text)
+  expr_over : (Open : Freedom) → IsLawful IsWordReason Open (AnswersExprOver T sets text)
   expr_over Open = after IsWordReason Open (ReadsExpression T sets text) _ expression (printed Open)
 
-expr : (Open : Type 0) → AreTexts → (over text : Bytes) → IsLawful IsWordReason Open (AnswersExpr over text)
+expr : (Open : Freedom) → AreTexts → (over text : Bytes) → IsLawful IsWordReason Open (AnswersExpr over text)
 expr Open one over text = with_one IsWordReason Open (IsContext over) (syntax in_context) _ (one.context over) tt (λ c. expr_over (texts_of c.1) (one.expression c.1) c.0 text Open)
 
--- the text of an automaton
-prints : {V : Type 0} (Open : Type 0) (T : WeightTexts V) (weights : Weights) (a : Labelled V) → IsLawful IsTextReason Open (Prints T weights a)
-prints Open T weights a = for_such IsTextReason Open (IsTextOf T weights a) Gives (λ x y p q. p.canonical ∙ sym q.canonical) (λ text. gives IsTextReason Open text)
-
-cat : (Open : Type 0) (x : Input) → IsLawful IsTextReason Open (AnswersCat x)
-cat Open x = prints Open (texts_of x.weights) x.weights x.of
+cat : (Open : Freedom) (x : Input) → IsLawful IsTextReason Open (AnswersCat x)
+cat Open x = prints IsTextReason Open (texts_of x.weights) x.weights x.of
 
 -- the word of a text over a proper automaton
-proper_word : {V : Type 0} → OneWord → (a : Labelled V) (text : Bytes) → IsLawful IsTextReason ⊥ (ReadsProper a text)
-proper_word one a text = after IsTextReason ⊥ (ReadsWord a.sets text) _ (word ⊥ one a.sets text) (λ w. unless IsTextReason ⊥ _ contexts _ tt (gives IsTextReason ⊥ w))
+proper_word : {V : Type 0} → OneWord → (a : Labelled V) (text : Bytes) → IsLawful IsTextReason decided (ReadsProper a text)
+proper_word one a text = after IsTextReason decided (ReadsWord a.sets text) _ (word IsTextReason decided tt tt one a.sets text) (λ w. unless IsTextReason decided _ contexts _ tt (gives IsTextReason decided w))
 
-eval : (Open : Type 0) → OneWord → (text : Bytes) (x : Input) → IsLawful IsTextReason Open (AnswersEval text x)
+eval : (Open : Freedom) → OneWord → (text : Bytes) (x : Input) → IsLawful IsTextReason Open (AnswersEval text x)
 eval Open one text x =
     after IsTextReason Open (ReadsProper x.of text) _ (proper_word one x.of text) (λ w.
-    cause Open _ _ (cells_text (cells_of x.of.sets x.of.automaton w)) (unless IsTextReason Open _ overflow _ tt (gives IsTextReason Open _)))
+    valued IsTextReason Open (texts_of x.weights) tt tt w _ x.of)
+
+-- an expression has one standard automaton over these elements
+abbrev OneStandardOver : {V : Type 0} → WeightTexts V → Type 0
+OneStandardOver {V} T = (sets : List TapeSet) (t : Term V) (a b : Labelled V) → IsStandard T sets t a → IsStandard T sets t b → a ≡ b
+
+one_standard : IsTotalOrder word_order → (w : Weights) → OneStandardOver (texts_of w)
+one_standard total B = standard_once truth_weights truth_laws total
+one_standard total F2 = standard_once residue_weights residue_laws total
+one_standard total Z = standard_once whole_weights whole_laws total
+one_standard total Q = standard_once fraction_weights rational_laws total
+one_standard total Nmin = standard_once tropical_weights tropical_laws total
+
+-- commands over the standard automaton of an expression
+module _ (Open : Freedom) (loose : (r : Reason) → IsOfConstruction r → Open.refusals r) where
+  module _ {V : Type 0} (T : WeightTexts V) (one : OneStandardOver T) (sets : List TapeSet) where
+    unmade_kept : (t : Term V) (r : Reason) → IsUnmade T sets t r → IsWordReason r
+    unmade_kept t r (inl p) = subst IsWordReason (sym p.0) tt
+    unmade_kept t r (inr p) = subst IsWordReason (sym p.0) tt
+
+    unmade_past : (t : Term V) (r : Reason) → IsUnmade T sets t r → IsPastReason r × Open.refusals r
+    unmade_past t r (inl p) = (subst IsPastReason (sym p.0) tt, loose r (subst IsOfConstruction (sym p.0) tt))
+    unmade_past t r (inr p) = (subst IsPastReason (sym p.0) tt, loose r (subst IsOfConstruction (sym p.0) tt))
+
+    with_standard : (most : ℕ) (rest : Labelled V → Outcome Bytes) → ((a : Labelled V) → IsLawful IsPastReason Open (rest a)) → ((a : Labelled V) → IsLawful IsWordReason Open (rest a)) → (t : Term V)
+        → IsLawful IsWordReason Open (WithStandard T sets most rest t)
+    with_standard most rest past l t =
+        unless IsWordReason Open _ (limit (Of States)) _ tt (
+        may IsWordReason Open (IsUnmade T sets t) _ (unmade_kept t) (unmade_past t) (λ x p. (past p.0).kept x p.2) (for_such IsWordReason Open (IsStandard T sets t) rest (one sets t) l))
+
+  standard : AreTexts → (over text : Bytes) (most : ℕ) → IsLawful IsWordReason Open (AnswersStandard over text most)
+  standard texts over text most =
+      with_one IsWordReason Open (IsContext over) (syntax in_context) _ (texts.context over) tt (λ c.
+      after IsWordReason Open (ReadsExpression (texts_of c.1) c.0 text) _ (expression (texts_of c.1) (texts.expression c.1) c.0 text)
+      (with_standard (texts_of c.1) (one_standard texts.total c.1) c.0 most _ (prints IsPastReason Open (texts_of c.1) c.1) (prints IsWordReason Open (texts_of c.1) c.1)))
+
+  eval_text : AreTexts → (over text second : Bytes) → IsLawful IsWordReason Open (AnswersEvalText over text second)
+  eval_text texts over text second =
+      with_one IsWordReason Open (IsContext over) (syntax in_context) _ (texts.context over) tt (λ c.
+      after IsWordReason Open (ReadsExpression (texts_of c.1) c.0 text) _ (expression (texts_of c.1) (texts.expression c.1) c.0 text) (λ t.
+      after IsWordReason Open (ReadsWord c.0 second) _ (word IsWordReason decided tt tt texts.word c.0 second) (λ w.
+      with_standard (texts_of c.1) (one_standard texts.total c.1) c.0 most_states _ (valued IsPastReason Open (texts_of c.1) tt tt w _) (valued IsWordReason Open (texts_of c.1) tt tt w _) t)))
+
+-- what a request leaves open
+abbrev pub freedom_of : Option Asked → Freedom
+freedom_of request = record { texts = IsOpen request; refusals = IsLoose request }
 
 -- what a plan answers once its files are read
-abbrev pub IsLawfulPlan : Type 0 → Plan → Type 0
+abbrev pub IsLawfulPlan : Freedom → Plan → Type 0
 IsLawfulPlan Open unbuilt = Unit {0}
 IsLawfulPlan Open (of_texts texts) = IsLawful IsWordReason Open texts
 IsLawfulPlan Open (of_file file rest) = (x : Input) → IsLawful IsTextReason Open (rest x)
 IsLawfulPlan Open (of_files first second rest) = (x y : Input) → IsLawful IsTextReason Open (rest x y)
 
-pub plans_are_lawful : AreTexts → (request : Option Asked) → IsLawfulPlan (IsOpen request) (plan_of request)
+pub plans_are_lawful : AreTexts → (request : Option Asked) → IsLawfulPlan (freedom_of request) (plan_of request)
 plans_are_lawful one (Some (asked.context text)) = context _ one text
 plans_are_lawful one (Some (asked.expr over text)) = expr _ one over text
 plans_are_lawful one (Some (asked.cat file)) = cat _
 plans_are_lawful one (Some (asked.eval_file file text)) = eval _ one.word text
+plans_are_lawful one (Some (asked.eval_expr over text second)) = eval_text _ (λ r o. o) one over text second
+plans_are_lawful one (Some (asked.standard over text most)) = standard _ (λ r o. o) one over text most
 plans_are_lawful one other = tt

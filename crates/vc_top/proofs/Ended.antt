@@ -27,7 +27,7 @@ use Rattle.vc_top.specs.declared.refusal.Bound.TheVariants.{Of, Words}
 use Rattle.vc_top.specs.declared.status.Status.{Status}
 use Rattle.vc_top.specs.declared.status.Status.TheVariants as status
 use Rattle.vc_top.proofs.Commands.{IsLawfulPlan, IsTextReason, IsWordReason}
-use Rattle.vc_top.proofs.Lawful.{IsKept}
+use Rattle.vc_top.proofs.Lawful.{Freedom, IsKept}
 
 -- the reasons of a status, where they matter here
 abbrev IsReasonOf : Status → Reason → Type 0
@@ -135,7 +135,7 @@ module _ (seen : Seen) where
   file_cause plan file i r (inl p) = subst (HasCause plan seen) (sym (same_reason r p.0 p.2)) (bytes_cause plan file i p.0 p.1)
   file_cause plan file i r (inr p) = text_cause plan r (text_kept file p.0 (Err r) p.2)
 
-  module _ (Open : Type 0) where
+  module _ (Open : Freedom) where
     answer_cause : (plan : Plan) → IsLawfulPlan Open plan → (r : Reason) → Answers plan seen (Err r) → HasCause plan seen r
     answer_cause unbuilt l r p = subst (HasCause unbuilt seen) (sym (same_reason r usage p)) tt
     answer_cause (of_texts texts) l r p = texts_cause texts r (l.kept (Err r) p) p
@@ -161,7 +161,7 @@ module _ (seen : Seen) where
   for_usage (of_file file rest) a u p = absurd u
   for_usage (of_files first second rest) a u p = absurd u
 
-  module _ (Open : Type 0) (request : Option Asked) (lawful : IsLawfulPlan Open (plan_of request)) (ended : Status) (old new told now : Option Bytes) (before after first last : ℕ) where
+  module _ (Open : Freedom) (request : Option Asked) (lawful : IsLawfulPlan Open (plan_of request)) (ended : Status) (old new told now : Option Bytes) (before after first last : ℕ) where
     ended_printed : (a : Answer) (left : Option Reason) → Allows request seen a → Delivers a left old new before after → Reports left ended told now first last
         → ended ≡ status.Done → (text : Bytes) × Allows request seen (Ok text) × Appends old new text
     ended_printed (Ok text) None p d r e = (text, p, d)

@@ -1,8 +1,17 @@
 -- Outcomes that are refused for these reasons alone, and of which any two agree: each way to join them keeps this.
 use Rattle.std.proofs.Common.{◌≡◌, ◌⊎◌, ◌∙◌, Bool, true, false, Option, None, Some, Result, Ok, Err, sym, ap, subst, inl, inr}
 use Rattle.vc_top.specs.Answers.{IsFree, IsFreeReason, IsPastReason}
-use Rattle.vc_top.specs.Outcomes.{ForSuch, Gives, Outcome, Provided, Then, Unless, UnlessAny, WithOne, WithSome}
+use Rattle.vc_top.specs.Outcomes.{ForSuch, Gives, MayRefuse, Outcome, Provided, Then, Unless, UnlessAny, WithOne, WithSome}
 use Rattle.vc_top.specs.Reasons.{Reason}
+
+-- what is left open: which text is given, and whether something is given or refused for a reason
+pub record Freedom : Type 1 where
+  pub texts : Type 0
+  pub refusals : Reason → Type 0
+
+-- nothing is left open
+abbrev pub decided : Freedom
+decided = record { texts = ⊥; refusals = λ reason. ⊥ }
 
 module _ {X : Type 0} where
   -- a refusal since something is past its bounds
@@ -15,16 +24,25 @@ module _ {X : Type 0} where
   IsGiven (Ok x) = Unit {0}
   IsGiven (Err reason) = ⊥
 
-  -- one of the results is free, or they are the same, or both are past bounds, or both are values that are open
-  abbrev pub Alike : Type 0 → Result X Reason → Result X Reason → Type 0
-  Alike Open a b = (IsFree a ⊎ IsFree b) ⊎ ((a ≡ b) ⊎ ((IsPast a × IsPast b) ⊎ (Open × IsGiven a × IsGiven b)))
+  -- a refusal for one of these reasons
+  abbrev pub IsRefusedFor : (Reason → Type 0) → Outcome X
+  IsRefusedFor Of (Ok x) = ⊥
+  IsRefusedFor Of (Err reason) = Of reason
+
+  -- one of the results is a value, and the other a refusal for one of these reasons
+  abbrev pub AreMixed : (Reason → Type 0) → Result X Reason → Result X Reason → Type 0
+  AreMixed Of a b = (IsGiven a × IsRefusedFor Of b) ⊎ (IsRefusedFor Of a × IsGiven b)
+
+  -- one of the results is free, or they are the same, or both are past bounds, or both are values that are open, or a value and a refusal are open
+  abbrev pub Alike : Freedom → Result X Reason → Result X Reason → Type 0
+  Alike Open a b = (IsFree a ⊎ IsFree b) ⊎ ((a ≡ b) ⊎ ((IsPast a × IsPast b) ⊎ ((Open.texts × IsGiven a × IsGiven b) ⊎ AreMixed Open.refusals a b)))
 
 -- a value, or one of these reasons
 abbrev pub IsKept : {X : Type 0} → (Reason → Type 0) → Result X Reason → Type 0
 IsKept Own (Ok x) = Unit {0}
 IsKept Own (Err reason) = Own reason
 
-pub record IsLawful {X : Type 0} (Own : Reason → Type 0) (Open : Type 0) (R : Outcome X) : Type 0 where
+pub record IsLawful {X : Type 0} (Own : Reason → Type 0) (Open : Freedom) (R : Outcome X) : Type 0 where
   pub kept : (a : Result X Reason) → R a → IsKept Own a
   pub one : (a b : Result X Reason) → R a → R b → Alike Open a b
 
@@ -45,28 +63,34 @@ no_given x r e = cc e
 
 -- results where nothing is open
 module _ {Y : Type 0} where
-  pub free_first : (r : Reason) (y : Y) → Alike {X = Y} ⊥ (Err r) (Ok y) → IsFreeReason r
+  pub free_first : (r : Reason) (y : Y) → Alike {X = Y} decided (Err r) (Ok y) → IsFreeReason r
   free_first r y (inl (inl f)) = f
   free_first r y (inl (inr f)) = absurd f
   free_first r y (inr (inl e)) = absurd (no_given y r (sym e))
   free_first r y (inr (inr (inl p))) = absurd p.1
-  free_first r y (inr (inr (inr o))) = absurd o.0
+  free_first r y (inr (inr (inr (inl o)))) = absurd o.0
+  free_first r y (inr (inr (inr (inr (inl m))))) = absurd m.0
+  free_first r y (inr (inr (inr (inr (inr m))))) = absurd m.0
 
-  pub free_second : (y : Y) (r : Reason) → Alike {X = Y} ⊥ (Ok y) (Err r) → IsFreeReason r
+  pub free_second : (y : Y) (r : Reason) → Alike {X = Y} decided (Ok y) (Err r) → IsFreeReason r
   free_second y r (inl (inl f)) = absurd f
   free_second y r (inl (inr f)) = f
   free_second y r (inr (inl e)) = absurd (no_given y r e)
   free_second y r (inr (inr (inl p))) = absurd p.0
-  free_second y r (inr (inr (inr o))) = absurd o.0
+  free_second y r (inr (inr (inr (inl o)))) = absurd o.0
+  free_second y r (inr (inr (inr (inr (inl m))))) = absurd m.1
+  free_second y r (inr (inr (inr (inr (inr m))))) = absurd m.0
 
-  pub same_values : (x y : Y) → Alike {X = Y} ⊥ (Ok x) (Ok y) → x ≡ y
+  pub same_values : (x y : Y) → Alike {X = Y} decided (Ok x) (Ok y) → x ≡ y
   same_values x y (inl (inl f)) = absurd f
   same_values x y (inl (inr f)) = absurd f
   same_values x y (inr (inl e)) = same_given x y e
   same_values x y (inr (inr (inl p))) = absurd p.0
-  same_values x y (inr (inr (inr o))) = absurd o.0
+  same_values x y (inr (inr (inr (inl o)))) = absurd o.0
+  same_values x y (inr (inr (inr (inr (inl m))))) = absurd m.1
+  same_values x y (inr (inr (inr (inr (inr m))))) = absurd m.0
 
-module _ {X : Type 0} (Own : Reason → Type 0) (Open : Type 0) where
+module _ {X : Type 0} (Own : Reason → Type 0) (Open : Freedom) where
   agree_at : (a b x y : Result X Reason) → a ≡ x → b ≡ y → Alike Open x y → Alike Open a b
   agree_at a b x y e f p = subst (λ c. Alike Open c b) (sym e) (subst (λ d. Alike Open x d) (sym f) p)
 
@@ -134,24 +158,48 @@ module _ {X : Type 0} (Own : Reason → Type 0) (Open : Type 0) where
   }
 
   -- any such value may be given
-  pub open_such : {Y : Type 0} (I : Y → Type 0) (f : Y → X) → Open → IsLawful Own Open (ForSuch I (λ y. Gives (f y)))
+  pub open_such : {Y : Type 0} (I : Y → Type 0) (f : Y → X) → Open.texts → IsLawful Own Open (ForSuch I (λ y. Gives (f y)))
   open_such {Y} I f o = record {
     kept = λ a p. subst (IsKept Own) (sym p.2) tt;
-    one = λ a b p q. agree_at a b (Ok (f p.0)) (Ok (f q.0)) p.2 q.2 (inr (inr (inr (o, tt, tt))));
+    one = λ a b p q. agree_at a b (Ok (f p.0)) (Ok (f q.0)) p.2 q.2 (inr (inr (inr (inl (o, tt, tt)))));
   }
 
-  pub after : {Y : Type 0} (P : Outcome Y) (R : Y → Outcome X) → IsLawful Own ⊥ P → ((y : Y) → IsLawful Own Open (R y)) → IsLawful Own Open (Then P R)
+  -- a refusal that may come or not, where it is past bounds, and so is each refusal of what comes after
+  pub may : (C : Reason → Type 0) (R : Outcome X) → ((r : Reason) → C r → Own r) → ((r : Reason) → C r → IsPastReason r × Open.refusals r) → ((a : Result X Reason) → R a → IsKept IsPastReason a) → IsLawful Own Open R → IsLawful Own Open (MayRefuse C R)
+  may C R o f k l = record { kept = keeps; one = ones }
+    where
+      keeps : (a : Result X Reason) → MayRefuse C R a → IsKept Own a
+      keeps a (inl p) = refused_kept a p.0 (o p.0 p.1) p.2
+      keeps a (inr p) = l.kept a p
+
+      before : (r : Reason) (b : Result X Reason) → IsPastReason r × Open.refusals r → IsKept IsPastReason b → Alike Open (Err r) b
+      before r (Ok x) p q = inr (inr (inr (inr (inr (p.1, tt)))))
+      before r (Err s) p q = inr (inr (inl (p.0, q)))
+
+      behind : (a : Result X Reason) (r : Reason) → IsPastReason r × Open.refusals r → IsKept IsPastReason a → Alike Open a (Err r)
+      behind (Ok x) r p q = inr (inr (inr (inr (inl (tt, p.1)))))
+      behind (Err s) r p q = inr (inr (inl (q, p.0)))
+
+      ones : (a b : Result X Reason) → MayRefuse C R a → MayRefuse C R b → Alike Open a b
+      ones a b (inl p) (inl q) = agree_at a b (Err p.0) (Err q.0) p.2 q.2 (inr (inr (inl ((f p.0 p.1).0, (f q.0 q.1).0))))
+      ones a b (inl p) (inr q) = subst (λ c. Alike Open c b) (sym p.2) (before p.0 b (f p.0 p.1) (k b q))
+      ones a b (inr p) (inl q) = subst (λ c. Alike Open a c) (sym q.2) (behind a q.0 (f q.0 q.1) (k a p))
+      ones a b (inr p) (inr q) = l.one a b p q
+
+  pub after : {Y : Type 0} (P : Outcome Y) (R : Y → Outcome X) → IsLawful Own decided P → ((y : Y) → IsLawful Own Open (R y)) → IsLawful Own Open (Then P R)
   after {Y} P R k l = record { kept = keeps; one = ones }
     where
       keeps : (a : Result X Reason) → Then P R a → IsKept Own a
       keeps a (inl p) = refused_kept a p.0 (k.kept (Err p.0) p.1) p.2
       keeps a (inr p) = (l p.0).kept a p.2
 
-      refusals : (r s : Reason) → Alike {X = Y} ⊥ (Err r) (Err s) → Alike {X = X} Open (Err r) (Err s)
+      refusals : (r s : Reason) → Alike {X = Y} decided (Err r) (Err s) → Alike {X = X} Open (Err r) (Err s)
       refusals r s (inl f) = inl f
       refusals r s (inr (inl e)) = inr (inl (ap (λ x. Err x) (same_reason r s e)))
       refusals r s (inr (inr (inl p))) = inr (inr (inl p))
-      refusals r s (inr (inr (inr o))) = absurd o.0
+      refusals r s (inr (inr (inr (inl o)))) = absurd o.0
+      refusals r s (inr (inr (inr (inr (inl m))))) = absurd m.0
+      refusals r s (inr (inr (inr (inr (inr m))))) = absurd m.1
 
       ones : (a b : Result X Reason) → Then P R a → Then P R b → Alike Open a b
       ones a b (inl p) (inl q) = agree_at a b (Err p.0) (Err q.0) p.2 q.2 (refusals p.0 q.0 (k.one (Err p.0) (Err q.0) p.1 q.1))

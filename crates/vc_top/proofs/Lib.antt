@@ -4,6 +4,8 @@ pub mod LinesRead
 pub mod Evaluated
 pub mod Printed
 pub mod Expressed
+pub mod Constructed
+pub mod OneStandard
 pub mod Failed
 pub mod Planned
 pub mod Lawful

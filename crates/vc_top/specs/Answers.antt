@@ -6,7 +6,7 @@ use Rattle.vc_model.specs.Lists.{In}
 use Rattle.vc_ring.specs.declared.faults.Measure.TheVariants.{Bytes as BytesOf}
 use Rattle.vc_top.specs.Inputs.{Input, ReadsFile, most_bytes}
 use Rattle.vc_top.specs.Outcomes.{Answer, Outcome, OrMemory}
-use Rattle.vc_top.specs.Plans.{Answers, IsOpen, IsUnbuilt, Plan, files_of, of_file, of_files, of_texts, plan_of, unbuilt}
+use Rattle.vc_top.specs.Plans.{Answers, IsLoose, IsOpen, IsUnbuilt, Plan, files_of, of_file, of_files, of_texts, plan_of, unbuilt}
 use Rattle.vc_top.specs.Reasons.{Reason, empty_circuit, limit, no_memory, overflow, unread, unwritten, usage}
 use Rattle.vc_top.specs.Seen.{HasFailed, Reads, Seen}
 use Rattle.vc_top.specs.declared.refusal.Bound.TheVariants.{Of}
@@ -77,6 +77,10 @@ ArePast plan seen a b = (r q : Reason) × (a ≡ Err r) × (b ≡ Err q) × IsPa
 abbrev pub AreOpen : Option Asked → Answer → Answer → Type 0
 AreOpen request a b = (x y : Bytes) × (a ≡ Ok x) × (b ≡ Ok y) × IsOpen request
 
--- one of two answers is free, or they are the same, or both are refusals of one part that are past bounds, or both are texts that are open
+-- one prints a text, and the other is refused for a reason whose cause stands while the text may come
+abbrev pub AreLoose : Option Asked → Answer → Answer → Type 0
+AreLoose request a b = (x : Bytes) × (r : Reason) × IsLoose request r × (((a ≡ Ok x) × (b ≡ Err r)) ⊎ ((a ≡ Err r) × (b ≡ Ok x)))
+
+-- one of two answers is free, or they are the same, or both are refusals of one part that are past bounds, or both are texts that are open, or the command may be refused or not
 abbrev pub Agree : Option Asked → Seen → Answer → Answer → Type 0
-Agree request seen a b = (IsFree a ⊎ IsFree b) ⊎ ((a ≡ b) ⊎ (ArePast (plan_of request) seen a b ⊎ AreOpen request a b))
+Agree request seen a b = (IsFree a ⊎ IsFree b) ⊎ ((a ≡ b) ⊎ (ArePast (plan_of request) seen a b ⊎ (AreOpen request a b ⊎ AreLoose request a b)))

@@ -1,5 +1,6 @@
 -- What the commands of the code answer, and that a plan of the code is the one of a request.
-use Rattle.std.specs.Prelude.{◌≡◌, Err}
+use Rattle.std.specs.Prelude.{◌≡◌, Err, ⊤}
+use Rattle.vc_command.specs.Requests.{IsLimit}
 use Rattle.vc_files.specs.Files.{Bytes}
 use Rattle.vc_top.specs.Automata.{AnswersCat}
 use Rattle.vc_top.specs.Contexts.{AnswersContext}
@@ -9,18 +10,31 @@ use Rattle.vc_top.specs.Inputs.{Input}
 use Rattle.vc_top.specs.Outcomes.{Answer, Outcome}
 use Rattle.vc_top.specs.Plans.{Plan, of_file, of_texts, unbuilt}
 use Rattle.vc_top.specs.Reasons.{usage}
+use Rattle.vc_top.specs.Standards.{AnswersEvalText, AnswersStandard}
 use Rattle.vc_top.specs.declared.plan.FileCommand.{FileCommand}
 use Rattle.vc_top.specs.declared.plan.FileCommand.TheVariants.{Cat, Eval}
 use Rattle.vc_top.specs.declared.plan.Plan.{Plan as Code}
 use Rattle.vc_top.specs.declared.plan.Plan.TheVariants.{Texts, File}
 use Rattle.vc_top.specs.declared.plan.TextCommand.{TextCommand}
-use Rattle.vc_top.specs.declared.plan.TextCommand.TheVariants.{Unbuilt, Context, Expr}
+use Rattle.vc_top.specs.declared.plan.TextCommand.TheVariants.{Unbuilt, Context, Expr, Eval as EvalText, Standard}
 
 -- a command that reads no file; one that is not built is `Usage`
 abbrev pub AnswersTexts : TextCommand → Outcome Bytes
 AnswersTexts Unbuilt answer = answer ≡ Err usage
 AnswersTexts (Context text) answer = AnswersContext text.now answer
 AnswersTexts (Expr over text) answer = AnswersExpr over.now text.now answer
+AnswersTexts (EvalText over text word) answer = AnswersEvalText over.now text.now word.now answer
+AnswersTexts (Standard over text most) answer = AnswersStandard over.now text.now most answer
+
+-- a limit of the command is in its range
+abbrev pub IsWithin : TextCommand → Type 0
+IsWithin (Standard over text most) = IsLimit most
+IsWithin other = ⊤
+
+-- the same of a command that reads no file
+abbrev pub HasLimits : Code → Type 0
+HasLimits (Texts command) = IsWithin command
+HasLimits other = ⊤
 
 -- a command, to the automaton of its file
 abbrev pub AnswersFile : FileCommand → Input → Outcome Bytes

@@ -9,6 +9,7 @@ pub mod Inputs
 pub mod Evaluations
 pub mod Expressions
 pub mod Automata
+pub mod Standards
 pub mod Plans
 pub mod Answers
 pub mod Messages

@@ -14,7 +14,7 @@ use vc_label::LabelSet;
 use vc_ring::{Semiring, Weighed};
 
 /// The text of an automaton of this context.
-fn text_of<'w, L: LabelSet, S: Semiring>(
+pub(crate) fn text_of<'w, L: LabelSet, S: Semiring>(
     alloc: Global,
     context: &AnyContext,
     automaton: &Automaton<L, S>,

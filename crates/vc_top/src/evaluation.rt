@@ -5,7 +5,7 @@ ghost use Rattle.vc_label.specs.Borrowed.{word_of};
 ghost use Rattle.vc_model.specs.Automata.{Automaton as Graph};
 ghost use Rattle.vc_model.specs.Words.{Word as Letters};
 ghost use Rattle.vc_ring.specs.declared.faults.MakeFault.{MakeFault as Cause};
-ghost use Rattle.vc_top.specs.Evaluations.{AnswersEval, AnswersEvalOver, AnswersSteps, IsCoefficient, ReadsProper, is_one};
+ghost use Rattle.vc_top.specs.Evaluations.{AnswersEval, AnswersEvalOver, AnswersSteps, AnswersWord, IsCoefficient, ReadsProper, is_one};
 ghost use Rattle.vc_top.specs.Outcomes.{OrMemory};
 ghost use Rattle.vc_top.specs.Refused.{UnlessCause};
 ghost use Rattle.vc_top.specs.Views.{answer_of, input_of, labelled_of, seen_by};
@@ -72,6 +72,32 @@ fn eval_one_tape<L: LabelSet, S: Semiring>(
     }
 }
 
+/// The answer for the coefficient of an automaton of one tape at a word.
+pub(crate) fn value_one<'w, L: LabelSet, S: Semiring>(
+    alloc: Global,
+    automaton: &Proper<L, S>,
+    word: Word<'_>,
+) -> Result<String, Refusal<'w>>
+    requires one { is_one automaton.now.sets ≡ true }
+    requires tapes { length (word_of word) ≡ length automaton.now.sets }
+    ensures { OrMemory (AnswersWord ⟦<S as Weighed>⟧.texts automaton.now (word_of word.entry)) (answer_of result) }
+{
+    answer_with::<S>(alloc, eval_one_tape(alloc, automaton, word))
+}
+
+/// The answer for the coefficient of an automaton of several tapes at a word.
+pub(crate) fn value_several<'w, L: LabelSet, S: Semiring>(
+    alloc: Global,
+    automaton: &Proper<L, S>,
+    word: Word<'_>,
+) -> Result<String, Refusal<'w>>
+    requires several { is_one automaton.now.sets ≡ false }
+    requires tapes { length (word_of word) ≡ length automaton.now.sets }
+    ensures { OrMemory (AnswersWord ⟦<S as Weighed>⟧.texts automaton.now (word_of word.entry)) (answer_of result) }
+{
+    answer_with::<S>(alloc, eval_tuple(alloc, automaton, word))
+}
+
 /// The word of a text over the labels of an automaton, and the automaton, where none of its transitions has an empty label.
 fn proper_over<'w, L: LabelSet, S: Semiring>(
     alloc: Global,
@@ -102,9 +128,7 @@ fn eval_one<'w, L: LabelSet, S: Semiring>(
     ensures { OrMemory (AnswersEvalOver ⟦<S as Weighed>⟧.texts text.now automaton) (answer_of result) }
 {
     match proper_over(alloc, automaton, text) {
-        Ok((word, proper)) => {
-            answer_with::<S>(alloc, eval_one_tape(alloc, &proper, word.word()))
-        }
+        Ok((word, proper)) => value_one(alloc, &proper, word.word()),
         Err(refusal) => Err(refusal),
     }
 }
@@ -119,7 +143,7 @@ fn eval_several<'w, L: LabelSet, S: Semiring>(
     ensures { OrMemory (AnswersEvalOver ⟦<S as Weighed>⟧.texts text.now automaton) (answer_of result) }
 {
     match proper_over(alloc, automaton, text) {
-        Ok((word, proper)) => answer_with::<S>(alloc, eval_tuple(alloc, &proper, word.word())),
+        Ok((word, proper)) => value_several(alloc, &proper, word.word()),
         Err(refusal) => Err(refusal),
     }
 }

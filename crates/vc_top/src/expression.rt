@@ -38,7 +38,7 @@ fn refusal_of<'w, V: Drop>(fault: TextFault<V>) -> Refusal<'w>
 }
 
 /// The expression of a text, in a store that is still empty or not.
-fn read_over<'w, L: LabelSet, S: Semiring>(
+pub(crate) fn read_over<'w, L: LabelSet, S: Semiring>(
     alloc: Global,
     exprs: &mut Exprs<L, S>,
     labels: &L,

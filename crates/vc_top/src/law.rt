@@ -12,11 +12,13 @@ use vc_daut::{
 };
 use vc_exprio::{texts_have_one_answer, texts_spell_one_word};
 use vc_files::names_have_one_file;
+use vc_label::words_are_ordered;
 use vc_rat::Fraction;
 
 /// Over files that tell their bytes, a request allows one answer alone, but for faults of reading and want of memory; and
 /// where a number does not fit and a limit is passed in one file, or in what is done with what was read, either may be
-/// answered; and a command whose text is open may print any that it allows. So where the cause of a refusal stands, this
+/// answered; and a command whose text is open may print any that it allows; and where a step of a standard construction does
+/// not fit, or the construction names too many transitions, the command may be refused for it or answer. So where the cause of a refusal stands, this
 /// refusal is answered, or one of these. A file or an expression that has too many bytes is refused for
 /// that alone.
 pub fn answers_are_determined()
@@ -26,6 +28,7 @@ pub fn answers_are_determined()
 {
     names_have_one_file();
     contexts_have_texts();
+    words_are_ordered();
     texts_spell_one_word();
     texts_have_one_answer::<bool>();
     texts_have_one_answer::<i128>();

@@ -10,6 +10,7 @@ mod law;
 mod message;
 mod plan;
 mod refusal;
+mod standard;
 mod status;
 mod top;
 mod word;

@@ -1,5 +1,5 @@
 ghost use Rattle.std.specs.Prelude.{◌≡◌, ◌∷◌, [], map, Some, string_bytes};
-ghost use Rattle.vc_command.specs.Requests.{request_of};
+ghost use Rattle.vc_command.specs.Requests.{HasLimit, request_of};
 ghost use Rattle.vc_command.specs.Views.{asked};
 ghost use Rattle.vc_files.specs.Files.{Grows};
 ghost use Rattle.vc_top.specs.Answers.{Allows, names_of};
@@ -18,10 +18,11 @@ use crate::refusal::Refusal;
 use crate::status::Status;
 use std::alloc::Global;
 use vc_basic::NminValue;
-use vc_command::{Request, RequestFault, request_of};
+use vc_command::{Request, RequestFault, limits_are_in_range, request_of};
 use vc_context::contexts_have_texts;
 use vc_exprio::{texts_have_one_answer, texts_spell_one_word};
 use vc_files::{Files, Sink};
+use vc_label::words_are_ordered;
 use vc_rat::Fraction;
 
 /// The answer of a command to the file of this name.
@@ -47,6 +48,7 @@ fn answer<'w, F: Files>(
     request: &'w Request,
     files: &mut F,
 ) -> Result<String, Refusal<'w>>
+    requires { HasLimit (asked request.now) }
     ensures held { F.held files.new ≡ F.held files.old }
     ensures faults { Grows (names_of (Some (asked request.now))) (F.faults files.old) (F.faults files.new) }
     ensures answer { Allows (Some (asked request.now)) (seen (F.held files.old) (F.faults files.old) (F.faults files.new)) (answer_of result) }
@@ -98,9 +100,10 @@ pub fn refuse<E: Sink>(fault: RequestFault, err: &mut E) -> Status
 ///
 /// The words are those after the program's name. Files are read from `files`, the answer goes to `out` once it stands
 /// whole, and on a refusal one line goes to `err`. `context C` prints the canonical text of the context, `expr C E` that of
-/// the expression that the identities make of the text, `cat FILE` that of the file's automaton, and `eval FILE WORD` the
-/// coefficient of the file's automaton at the word (Sakarovitch, Elements of Automata Theory), each with a line feed at its
-/// end. A request of a command that is not built yet is `Usage`.
+/// the expression that the identities make of the text, `standard C E` that of its standard automaton, `cat FILE` that of
+/// the file's automaton, and `eval FILE WORD` and `eval C E WORD` the coefficient of the file's automaton or of the
+/// expression at the word (Sakarovitch, Elements of Automata Theory), each with a line feed at its end. A request of a
+/// command that is not built yet is `Usage`.
 pub fn run<F: Files, O: Sink, E: Sink>(
     alloc: Global,
     words: &[String],
@@ -116,7 +119,9 @@ pub fn run<F: Files, O: Sink, E: Sink>(
     ensures faults { Grows (names_of (request_of (map string_bytes words.now))) (F.faults files.old) (F.faults files.new) }
     ensures kept { F.held files.new ≡ F.held files.old }
 {
+    limits_are_in_range();
     contexts_have_texts();
+    words_are_ordered();
     texts_spell_one_word();
     texts_have_one_answer::<bool>();
     texts_have_one_answer::<i128>();

@@ -1,15 +1,12 @@
 use Rattle.std.proofs.Common.{subst}
 use Rattle.vc_aut.specs.Labelled.{Labelled}
-use Rattle.vc_eval.specs.Cells.{tuple_refusal}
-use Rattle.vc_label.specs.Borrowed.{word_of}
 use Rattle.vc_model.specs.Words.{Word}
 use Rattle.vc_ring.specs.Weighed.{weighed}
-use Rattle.vc_top.specs.Evaluations.{AnswersSteps}
+use Rattle.vc_top.specs.Evaluations.{AnswersWord}
 use Rattle.vc_top.specs.Outcomes.{OrMemory}
 use Rattle.vc_top.specs.Reasons.{reason_of}
-use Rattle.vc_top.specs.Refused.{UnlessCause}
 use Rattle.vc_top.specs.Views.{answer_of}
-use Rattle.vc_top.proofs.Evaluated.{several_answered, tuple_coefficient, word_answered, word_refused}
+use Rattle.vc_top.proofs.Evaluated.{word_answered, word_refused}
 use Rattle.vc_top.proofs.evaluation.eval_several.Goals as goal
 
 pub returns-in-Ok : goal.returns-in-Ok
@@ -18,13 +15,9 @@ returns-in-Ok g c =
     let a = c.args.automaton in
     let w = c.in-Ok.word in
     let p = c.in-Ok.proper in
-    let v = word_of c.word-in-Ok.result in
-    let answered = c.answer_with.ensures (tuple_refusal p.automaton v) p.automaton v (tuple_coefficient T p.automaton v c.eval_tuple.result c.eval_tuple.ensures.answer) in
-    let at : OrMemory (UnlessCause (tuple_refusal p.automaton w) (AnswersSteps T p.automaton w)) (answer_of c.answer_with.result) =
-    subst (λ (u : Word). OrMemory (UnlessCause (tuple_refusal p.automaton u) (AnswersSteps T p.automaton u)) (answer_of c.answer_with.result)) c.word-in-Ok.ensures answered in
-    word_answered T a c.args.text.now w (answer_of c.answer_with.result) c.in-Ok.ensures.read
-    (several_answered T a w (answer_of c.answer_with.result) c.requires
-    (subst (λ (x : Labelled g.row.S-Value.Denot). OrMemory (UnlessCause (tuple_refusal x.automaton w) (AnswersSteps T x.automaton w)) (answer_of c.answer_with.result)) c.in-Ok.ensures.proper at))
+    let b = answer_of c.value_several.result in
+    let at : OrMemory (AnswersWord T p w) b = subst (λ (v : Word). OrMemory (AnswersWord T p v) b) c.word-in-Ok.ensures c.value_several.ensures in
+    word_answered T a c.args.text.now w b c.in-Ok.ensures.read (subst (λ (x : Labelled g.row.S-Value.Denot). OrMemory (AnswersWord T x w) b) c.in-Ok.ensures.proper at)
 
 pub returns-in-Err : goal.returns-in-Err
 returns-in-Err g c = word_refused (weighed g.S.Semiring g.S.Value.PartialEq) c.args.automaton c.args.text.now (reason_of c.in-Err.refusal) c.in-Err.ensures.read

@@ -7,10 +7,10 @@ use Rattle.vc_top.proofs.Planned.{file_answered, file_grows, texts_answered}
 use Rattle.vc_top.proofs.top.answer.Goals as goal
 
 pub returns-in-File-clause-faults : goal.returns-in-File-clause-faults
-returns-in-File-clause-faults g c = file_grows c.in-File.file c.in-File.command (plan_of (Some (asked c.args.request.now))) c.in-File.ensures _ _ c.with_file.ensures.faults
+returns-in-File-clause-faults g c = file_grows c.in-File.file c.in-File.command (plan_of (Some (asked c.args.request.now))) c.in-File.ensures.plan _ _ c.with_file.ensures.faults
 
 pub returns-in-File-clause-answer : goal.returns-in-File-clause-answer
-returns-in-File-clause-answer g c = file_answered c.in-File.file c.in-File.command (seen _ _ _) (plan_of (Some (asked c.args.request.now))) c.in-File.ensures (answer_of c.with_file.result) c.with_file.ensures.answer
+returns-in-File-clause-answer g c = file_answered c.in-File.file c.in-File.command (seen _ _ _) (plan_of (Some (asked c.args.request.now))) c.in-File.ensures.plan (answer_of c.with_file.result) c.with_file.ensures.answer
 
 pub returns-in-Texts-clause-answer : goal.returns-in-Texts-clause-answer
-returns-in-Texts-clause-answer g c = texts_answered (seen _ _ _) (plan_of (Some (asked c.args.request.now))) c.in-Texts.command c.in-Texts.ensures (answer_of c.on_texts.result) c.on_texts.ensures
+returns-in-Texts-clause-answer g c = texts_answered (seen _ _ _) (plan_of (Some (asked c.args.request.now))) c.in-Texts.command c.in-Texts.ensures.plan (answer_of c.on_texts.result) c.on_texts.ensures
