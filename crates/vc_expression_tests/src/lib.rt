@@ -2,6 +2,10 @@
 #![tactic(auto)]
 
 #[cfg(test)]
+mod coefficients;
+#[cfg(test)]
+mod expressions;
+#[cfg(test)]
 mod store;
 #[cfg(test)]
 mod words;
