@@ -17,3 +17,6 @@ pub mod Ascending
 pub mod Blocks
 pub mod Relabelled
 pub mod WiderSets
+pub mod Reached
+pub mod Kept
+pub mod Trimmed

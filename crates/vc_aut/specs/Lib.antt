@@ -9,3 +9,6 @@ pub mod EmptyLabels
 pub mod Additions
 pub mod Runs
 pub mod Wider
+pub mod Marks
+pub mod Links
+pub mod Kept

@@ -151,4 +151,25 @@ impl<L: LabelSet, S: Semiring> Automaton<L, S> {
         let end = self.starts[s as usize + 1];
         &self.transitions[start..end]
     }
+
+    /// All transitions, in order.
+    pub(crate) fn transitions(&self) -> &[Transition<L, S>]
+        ensures { map (transition_of L.parts) result.now ≡ self.now.automaton.transitions }
+    {
+        &self.transitions
+    }
+
+    /// The initial weights of all states.
+    pub(crate) fn initial_weights(&self) -> &[S::Value]
+        ensures { result.now ≡ self.now.automaton.initial }
+    {
+        &self.initial_weights
+    }
+
+    /// The final weights of all states.
+    pub(crate) fn final_weights(&self) -> &[S::Value]
+        ensures { result.now ≡ self.now.automaton.final }
+    {
+        &self.final_weights
+    }
 }

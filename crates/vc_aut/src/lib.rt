@@ -5,10 +5,12 @@ mod automaton;
 mod builder;
 mod gather;
 mod laws;
+mod links;
 mod moves;
 mod proper;
 mod starts;
 mod transition;
+mod useful;
 mod with_labels;
 
 pub use automaton::Automaton;
@@ -19,3 +21,4 @@ pub use laws::{
 };
 pub use proper::Proper;
 pub use transition::Transition;
+pub use useful::trim;

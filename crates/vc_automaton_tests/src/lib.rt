@@ -7,3 +7,5 @@ mod automata;
 mod coefficients;
 #[cfg(test)]
 mod labels;
+#[cfg(test)]
+mod trims;
