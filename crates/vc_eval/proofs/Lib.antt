@@ -4,6 +4,7 @@ pub mod Places
 pub mod Pushes
 pub mod Sources
 pub mod LetterSources
+pub mod Blocks
 pub mod ReadingLaws
 pub mod IdleStates
 pub mod Fronts
@@ -11,6 +12,7 @@ pub mod Targets
 pub mod RowSteps
 pub mod EndCuts
 pub mod Cells
+pub mod MarkedCells
 pub mod Prefixes
 pub mod Ends
 pub mod Rounds

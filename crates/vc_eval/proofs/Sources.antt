@@ -11,14 +11,10 @@ use Rattle.vc_model.specs.Words.{Word, size}
 use Rattle.vc_ring.specs.Steps.{outcome, fits}
 use Rattle.vc_ring.specs.declared.faults.Overflow.{Overflow}
 use Rattle.vc_eval.specs.Cells.{longest}
-use Rattle.vc_eval.specs.Forward.{by_source}
+use Rattle.vc_eval.specs.Forward.{by_source, from_states}
 use Rattle.vc_eval.specs.Moves.{moved, move_steps, moved_once, once_steps}
 use Rattle.vc_eval.proofs.Sweeps.{next_number}
 use Rattle.vc_eval.proofs.Pushes.{next_item}
-
--- the transitions from the states from s up to n, by source
-abbrev pub from_states : {V : Type 0} → List (Transition V) → ℕ → ℕ → List (Transition V)
-from_states ts s n = flat_map (λ p. filter (λ u. u.from == p) ts) (up_from s (n - s))
 
 pub next_source : {V : Type 0} (ts : List (Transition V)) (s n : ℕ) → s < n → from_states ts s n ≡ filter (λ u. u.from == s) ts ++ from_states ts (s + 1) n
 next_source ts s n h = ap (flat_map (λ p. filter (λ u. u.from == p) ts)) (next_number s n h)
@@ -48,14 +44,14 @@ In-by_source A u i l =
     (In-filter (λ t. t.from == u.from) u A.transitions i (eq-eqb u.from u.from refl))
 
 module _ {V : Type 0} (R : WeightSet V) (h : List V → Transition V → Option V) (at : ℕ) where
-  move_steps-append : (us vs : List (Transition V)) (rows : List V) → move_steps R h at (us ++ vs) rows ≡ move_steps R h at us rows ++ move_steps R h at vs (moved R h at us rows)
+  pub move_steps-append : (us vs : List (Transition V)) (rows : List V) → move_steps R h at (us ++ vs) rows ≡ move_steps R h at us rows ++ move_steps R h at vs (moved R h at us rows)
   move_steps-append [] vs rows = refl
   move_steps-append (u ∷ us) vs rows =
       let next = moved_once R at (h rows u) u rows in
       ap (λ ss. once_steps R at (h rows u) u rows ++ ss) (move_steps-append us vs next)
       ∙ sym (append_assoc (once_steps R at (h rows u) u rows) (move_steps R h at us next) (move_steps R h at vs (moved R h at us next)))
 
-  moved-append : (us vs : List (Transition V)) (rows : List V) → moved R h at (us ++ vs) rows ≡ moved R h at vs (moved R h at us rows)
+  pub moved-append : (us vs : List (Transition V)) (rows : List V) → moved R h at (us ++ vs) rows ≡ moved R h at vs (moved R h at us rows)
   moved-append [] vs rows = refl
   moved-append (u ∷ us) vs rows = moved-append us vs (moved_once R at (h rows u) u rows)
 

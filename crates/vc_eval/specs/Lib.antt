@@ -4,3 +4,4 @@ pub mod Moves
 pub mod LetterMoves
 pub mod Cells
 pub mod Ready
+pub mod Marks

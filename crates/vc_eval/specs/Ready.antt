@@ -9,12 +9,13 @@ use Rattle.vc_model.specs.Words.{Word}
 use Rattle.vc_eval.specs.Cells.{cells}
 use Rattle.vc_eval.specs.Positions.{positions, place_of}
 
--- an automaton of one tape, whether each label is a single letter, and a row for each letter of the longest label and one more
-pub record IsReady {V : Type 0} (R : WeightSet V) (a : Labelled V) (single : Bool) (rows : List V) : Type 0 where
+-- an automaton of one tape, whether each label is a single letter, a row for each letter of the longest label and one more, and a mark for each 64 cells
+pub record IsReady {V : Type 0} (R : WeightSet V) (a : Labelled V) (single : Bool) (rows : List V) (marks : List Bool) : Type 0 where
   pub tapes : length a.sets ≡ 1
   pub letters : IsTrue single → HasLetters a.automaton
   pub cells : length rows ≡ cells a.automaton
   pub in_range : InRange R rows
+  pub marked : length rows ≤ 64 * length marks
 
 -- so many cells are whole rows, and as many as a label leads back from a position
 pub record HasRoom {V : Type 0} (A : Automaton V) (w : Word) (cells : ℕ) : Type 0 where

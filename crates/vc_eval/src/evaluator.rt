@@ -1,5 +1,6 @@
 //! The evaluator of an automaton of one tape, which serves many words.
 
+use crate::marks::BLOCK;
 use crate::rows::forward;
 use crate::size::{longest, past_cells, zeros};
 use std::alloc::{AllocError, Global};
@@ -11,7 +12,8 @@ use vc_ring::{MakeFault, Overflow, Semiring};
 /// Answers the coefficients of a proper automaton of one tape.
 ///
 /// It keeps a row with a weight for each state for each letter of the longest label and one more,
-/// and uses them in turn, for every word. The row of a prefix has at each state the sum of the
+/// and uses them in turn, for every word. Where each label is one letter, a step goes through the
+/// states near those whose entry is not zero. The row of a prefix has at each state the sum of the
 /// weights of the paths to it that read the prefix, so the coefficient is the row of the whole word
 /// times the final weights (Sakarovitch, Elements of Automata Theory). A contract sees an evaluator
 /// as its automaton.
@@ -20,6 +22,7 @@ pub struct Evaluator<'p, L: LabelSet, S: Semiring> {
     automaton: &'p Proper<L, S>,
     single: bool,
     rows: Vec<S::Value>,
+    marks: Vec<bool>,
 }
 
 impl<'p, L: LabelSet, S: Semiring> Model for Evaluator<'p, L, S> {
@@ -33,7 +36,7 @@ impl<'p, L: LabelSet, S: Semiring> Model for Evaluator<'p, L, S> {
 
     ghost view = { λ e. e.automaton.now };
 
-    ghost invariant = { λ e. IsReady S.set e.automaton.now e.single e.rows.items };
+    ghost invariant = { λ e. IsReady S.set e.automaton.now e.single e.rows.items e.marks.items };
 }
 
 impl<'p, L: LabelSet, S: Semiring> Evaluator<'p, L, S> {
@@ -65,10 +68,14 @@ impl<'p, L: LabelSet, S: Semiring> Evaluator<'p, L, S> {
         let Ok(rows) = zeros::<S>(alloc, cells as usize) else {
             return Err(MakeFault::Memory(AllocError));
         };
+        let Ok(marks) = Vec::from_elem(alloc, true, cells as usize / BLOCK + 1) else {
+            return Err(MakeFault::Memory(AllocError));
+        };
         Ok(Evaluator {
             automaton: aut,
             single: longest == 1,
             rows,
+            marks,
         })
     }
 
@@ -84,6 +91,13 @@ impl<'p, L: LabelSet, S: Semiring> Evaluator<'p, L, S> {
         proper_automata_are_proper(self.automaton);
         let positions = word.tape(0).len() + 1;
         let aut = self.automaton.automaton();
-        forward(aut, word, positions, self.single, &mut self.rows)
+        forward(
+            aut,
+            word,
+            positions,
+            self.single,
+            &mut self.rows,
+            &mut self.marks,
+        )
     }
 }

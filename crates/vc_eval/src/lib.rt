@@ -4,6 +4,7 @@
 mod evaluator;
 mod laws;
 mod letters;
+mod marks;
 mod rows;
 mod size;
 mod tuple;

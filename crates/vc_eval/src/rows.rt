@@ -4,6 +4,7 @@ ghost use Rattle.std.specs.Prelude.{◌≡◌, ◌<◌, ◌≤◌, ◌+◌, ◌*
 ghost use Rattle.vc_aut.specs.Stored.{transition_of};
 ghost use Rattle.vc_eval.specs.Forward.{by_source, products, forward_steps};
 ghost use Rattle.vc_eval.specs.LetterMoves.{AreLettersHere};
+ghost use Rattle.vc_eval.specs.Marks.{AreMarked};
 ghost use Rattle.vc_eval.specs.Moves.{entry, IsIdleState, ends, earlier, next_row, source, IsMoveHere, AreMovesHere, moved, move_steps, moved_once, once_steps, cleared, ends_of, in_turn};
 ghost use Rattle.vc_eval.specs.Positions.{positions, place_of};
 ghost use Rattle.vc_eval.specs.Ready.{HasRoom};
@@ -16,6 +17,7 @@ ghost use Rattle.vc_ring.specs.Steps.{outcome, IsOutcome};
 ghost use Rattle.vc_ring.specs.declared.faults.Overflow.TheVariants.{Add, Mul};
 
 use crate::letters::push_row;
+use crate::marks::{clear_marked, mark_all};
 use crate::words::{front, is_end, place};
 use vc_aut::{Automaton, Transition, automata_are_valid};
 use vc_label::{LabelSet, Word};
@@ -25,20 +27,22 @@ use vc_ring::{Overflow, Semiring};
 const FEW_ROWS: usize = 8;
 
 /// The coefficient at a word; `count` is how many positions it has, and `single` says that there is one
-/// tape, and that each label has one letter. The rows are used in turn, and what stands in them does
-/// not matter.
+/// tape, and that each label has one letter. The rows are used in turn, and what stands in them and in
+/// the marks does not matter.
 pub(crate) fn forward<L: LabelSet, S: Semiring>(
     aut: &Automaton<L, S>,
     word: Word<'_>,
     count: usize,
     single: bool,
     rows: &mut [S::Value],
+    marks: &mut [bool],
 ) -> Result<S::Value, Overflow<S::Value>>
     requires tapes { length (word_of word) ≡ length aut.now.sets }
     requires proper { IsProper aut.now.automaton }
     requires tape { IsTrue single → length aut.now.sets ≡ 1 }
     requires letters { IsTrue single → HasLetters aut.now.automaton }
     requires two_rows { IsTrue single → 2 * aut.now.automaton.states ≤ length rows.old }
+    requires marks { IsTrue single → length rows.old ≤ 64 * length marks.old }
     requires positions { count ≡ positions (word_of word) }
     requires room { HasRoom aut.now.automaton (word_of word) (length rows.old) }
     requires rows_in { InRange S.set rows.old }
@@ -49,10 +53,11 @@ pub(crate) fn forward<L: LabelSet, S: Semiring>(
     automata_are_valid(aut);
     let states = aut.states() as usize;
     start(aut, rows);
+    mark_all(marks);
     let mut at = 0;
     for position in 1..count {
         at = row_behind(at, states, rows.len());
-        fill(aut, word, front(word, position), at, single, rows)?;
+        fill(aut, word, front(word, position), at, single, rows, marks)?;
     }
     finish(aut, rows, at)
 }
@@ -78,24 +83,29 @@ fn fill<L: LabelSet, S: Semiring>(
     at: usize,
     single: bool,
     rows: &mut [S::Value],
+    marks: &mut [bool],
 ) -> Result<(), Overflow<S::Value>>
     requires tapes { length (word_of word) ≡ length (word_of front) }
     requires room { at + aut.now.automaton.states ≤ length rows.old }
     requires moves { AreMovesHere S.set (word_of word) aut.now.automaton (word_of front) at (length rows.old) }
     requires tape { IsTrue single → length aut.now.sets ≡ 1 }
     requires letters { IsTrue single → AreLettersHere aut.now.automaton (word_of front) at (length rows.old) }
+    requires marks { IsTrue single → length rows.old ≤ 64 * length marks.old }
+    requires marked { IsTrue single → AreMarked S.set rows.old marks.old }
     requires rows_in { InRange S.set rows.old }
     ensures steps { result ≡ outcome S.set (move_steps S.set (source S.set (word_of word.entry) aut.now.automaton.states (word_of front.entry) at) at (by_source aut.now.automaton) (cleared S.set at aut.now.automaton.states rows.old)) tt }
     ensures rows { OnOk result (rows.new ≡ moved S.set (source S.set (word_of word.entry) aut.now.automaton.states (word_of front.entry) at) at (by_source aut.now.automaton) (cleared S.set at aut.now.automaton.states rows.old)) }
+    ensures marked { OnOk result (IsTrue single → AreMarked S.set rows.new marks.new) }
     ensures rows_in { InRange S.set rows.new }
 {
     let states = aut.states() as usize;
-    clear::<S>(rows, at, states);
     if single {
         let tape = front.tape(0);
         let before = row_before(at, states, rows.len());
-        return push_row(aut, tape[tape.len() - 1], before, at, rows);
+        clear_marked::<S>(rows, marks, at, states);
+        return push_row(aut, tape[tape.len() - 1], before, at, rows, marks);
     }
+    clear::<S>(rows, at, states);
     gather_row(aut, word, front, at, rows)
 }
 
@@ -174,7 +184,7 @@ fn is_idle<S: Semiring>(rows: &[S::Value], s: usize, states: usize) -> bool
 }
 
 /// Makes each entry of the row of so many states that begins at a cell zero.
-fn clear<S: Semiring>(rows: &mut [S::Value], at: usize, states: usize)
+pub(crate) fn clear<S: Semiring>(rows: &mut [S::Value], at: usize, states: usize)
     requires room { at + states ≤ length rows.old }
     requires rows_in { InRange S.set rows.old }
     ensures rows { rows.new ≡ cleared S.set at states rows.old }

@@ -41,6 +41,7 @@ pub fn eval_tuple<L: LabelSet, S: Semiring>(
         cells / states as usize,
         false,
         &mut rows,
+        &mut [],
     ) {
         Ok(value) => Ok(value),
         Err(step) => Err(MakeFault::Overflow(step)),

@@ -1,4 +1,4 @@
-use Rattle.std.proofs.Common.{◌≡◌, ℕ, ◌-◌, OnOk, length, get_or, ap, ap₂, sym, ◌∙◌, subst}
+use Rattle.std.proofs.Common.{◌≡◌, ℕ, ◌-◌, OnOk, length, get_or, ap, sym, ◌∙◌, subst}
 use Rattle.vc_label.specs.Borrowed.{word_of}
 use Rattle.vc_ring.specs.Steps.{outcome}
 use Rattle.vc_eval.specs.Forward.{by_source}
@@ -14,13 +14,13 @@ returns-then-single-clause-steps g c =
     let w = word_of c.args.word in
     let f = word_of c.args.front in
     let at = c.args.at in
-    let rows = c.clear.new.rows in
+    let rows = c.clear_marked.new.rows in
     let cells = length c.args.rows.now in
     let tape = c.tape-tape.result.now in
     let x = get_or tape (length tape - 1) 0 in
-    let back : c.row_before-before.result ≡ earlier at A.states cells = c.row_before-before.ensures ∙ ap₂ (λ (i j : ℕ). earlier at i j) c.states-states.ensures c.clear.auto.rows in
-    let made : rows ≡ cleared R at A.states c.args.rows.now = c.clear.ensures.rows ∙ ap (λ n. cleared R at n c.args.rows.now) c.states-states.ensures in
-    let same = letter_row R A w f at cells x rows (c.requires.letters c.if-single.true) c.requires.tapes c.clear.auto.rows (ap (λ t. get_or t (length t - 1) 0) c.tape-tape.ensures.value) in
+    let back : c.row_before-before.result ≡ earlier at A.states cells = c.row_before-before.ensures ∙ ap (λ (i : ℕ). earlier at i cells) c.states-states.ensures in
+    let made : rows ≡ cleared R at A.states c.args.rows.now = c.clear_marked.ensures.rows ∙ ap (λ n. cleared R at n c.args.rows.now) c.states-states.ensures in
+    let same = letter_row R A w f at cells x rows (c.requires.letters c.if-single.true) c.requires.tapes c.clear_marked.auto.rows (ap (λ t. get_or t (length t - 1) 0) c.tape-tape.ensures.value) in
     c.push_row.ensures.steps
     ∙ ap (λ b. outcome R (move_steps R (by_letter R x b) at (by_source A) rows) (tt {0})) back
     ∙ ap (λ ss. outcome R ss (tt {0})) same.1
@@ -33,13 +33,13 @@ returns-then-single-clause-rows g c =
     let w = word_of c.args.word in
     let f = word_of c.args.front in
     let at = c.args.at in
-    let rows = c.clear.new.rows in
+    let rows = c.clear_marked.new.rows in
     let cells = length c.args.rows.now in
     let tape = c.tape-tape.result.now in
     let x = get_or tape (length tape - 1) 0 in
-    let back : c.row_before-before.result ≡ earlier at A.states cells = c.row_before-before.ensures ∙ ap₂ (λ (i j : ℕ). earlier at i j) c.states-states.ensures c.clear.auto.rows in
-    let made : rows ≡ cleared R at A.states c.args.rows.now = c.clear.ensures.rows ∙ ap (λ n. cleared R at n c.args.rows.now) c.states-states.ensures in
-    let same = letter_row R A w f at cells x rows (c.requires.letters c.if-single.true) c.requires.tapes c.clear.auto.rows (ap (λ t. get_or t (length t - 1) 0) c.tape-tape.ensures.value) in
+    let back : c.row_before-before.result ≡ earlier at A.states cells = c.row_before-before.ensures ∙ ap (λ (i : ℕ). earlier at i cells) c.states-states.ensures in
+    let made : rows ≡ cleared R at A.states c.args.rows.now = c.clear_marked.ensures.rows ∙ ap (λ n. cleared R at n c.args.rows.now) c.states-states.ensures in
+    let same = letter_row R A w f at cells x rows (c.requires.letters c.if-single.true) c.requires.tapes c.clear_marked.auto.rows (ap (λ t. get_or t (length t - 1) 0) c.tape-tape.ensures.value) in
     subst (λ z. OnOk c.push_row.result (c.push_row.new.rows ≡ z))
     (
     ap (λ b. moved R (by_letter R x b) at (by_source A) rows) back

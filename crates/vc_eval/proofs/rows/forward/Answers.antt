@@ -12,6 +12,7 @@ use Rattle.vc_eval.specs.Positions.{positions, prefix_at}
 use Rattle.vc_eval.specs.Ready.{HasRoom}
 use Rattle.vc_eval.proofs.Cells.{behind, earlier_low, apart_row}
 use Rattle.vc_eval.proofs.Ends.{from_ok, from_err, finished, refused}
+use Rattle.vc_eval.proofs.MarkedCells.{all_marked}
 use Rattle.vc_eval.proofs.Places.{positions_some, prefix_is, prefix_some}
 use Rattle.vc_eval.proofs.Prefixes.{last_prefix}
 use Rattle.vc_eval.proofs.Rounds.{Holds, holds_first, round, move_here}
@@ -26,6 +27,7 @@ loop-position-init g c =
     let r : HasRoom A w (length c.start.new.rows) = record { count = m.count; some = m.some; whole = c.start.auto.rows ∙ m.whole; window = m.window } in
     record {
       in_range = c.start.ensures.rows_in;
+      marked = λ t. all_marked R c.start.new.rows c.mark_all.new.marks c.mark_all.ensures;
       some = omega arith;
       rows = (r, 0, omega (arith, m.some), omega arith, holds_first g.met.S.Semiring.laws (length c.args.aut.now.sets) A c.automata_are_valid.ensures.automaton c.requires.proper w c.requires.tapes m.count m.window c.start.new.rows (positions_some w) c.start.ensures.entries);
       fit = λ j a b. absurd (omega (arith, a, b));
@@ -80,6 +82,7 @@ loop-position-preserved g c =
     let fit : AllFit R (row_steps R A (prefix_at w q)) = subst (λ j. AllFit R (row_steps R A (prefix_at w j))) next (r.0 (from_ok R steps (tt {0}) (tt {0}) (sym c.in_ok-fill.ensures.steps)).1) in
     record {
       in_range = c.fill.ensures.rows_in;
+      marked = c.in_ok-fill.ensures.marked;
       some = omega (arith, some);
       rows = (
         room,

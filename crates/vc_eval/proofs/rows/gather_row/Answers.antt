@@ -6,7 +6,8 @@ use Rattle.vc_label.specs.Borrowed.{word_of}
 use Rattle.vc_model.specs.Members.{In-filter_from}
 use Rattle.vc_ring.specs.Steps.{outcome}
 use Rattle.vc_eval.specs.Moves.{IsMoveHere, source, moved, move_steps}
-use Rattle.vc_eval.proofs.Sources.{from_states, All_of, All_from, push_rows, push_ok, push_err}
+use Rattle.vc_eval.proofs.Sources.{All_of, All_from, push_rows, push_ok, push_err}
+use Rattle.vc_eval.specs.Forward.{from_states}
 use Rattle.vc_eval.proofs.rows.gather_row.Goals as goal
 
 pub gather_from-requires-clause-moves : goal.gather_from-requires-clause-moves

@@ -1,7 +1,6 @@
 use Rattle.std.proofs.Common.{◌≡◌}
-use Rattle.vc_eval.specs.Forward.{by_source}
+use Rattle.vc_eval.specs.Forward.{by_source, from_states}
 use Rattle.vc_eval.specs.Moves.{source, moved, move_steps}
-use Rattle.vc_eval.proofs.Sources.{from_states}
 use Rattle.vc_label.specs.Borrowed.{word_of}
 use Rattle.vc_model.specs.WeightSet.{InRange}
 use Rattle.vc_ring.specs.Steps.{outcome}

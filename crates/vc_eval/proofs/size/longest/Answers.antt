@@ -1,6 +1,7 @@
 use Rattle.std.proofs.Common.{◌≡◌, ◌+◌, All, length, ap, sym, ◌∙◌, subst, arith}
 use Rattle.vc_eval.specs.Cells.{longest}
-use Rattle.vc_eval.proofs.Sources.{from_states, All_from, longest-states, longest-by_source, no_states}
+use Rattle.vc_eval.proofs.Sources.{All_from, longest-states, longest-by_source, no_states}
+use Rattle.vc_eval.specs.Forward.{from_states}
 use Rattle.vc_eval.proofs.size.longest.Goals as goal
 
 pub longest_of-most-requires : goal.longest_of-most-requires

@@ -4,7 +4,7 @@ use Rattle.vc_eval.specs.LetterMoves.{carried}
 use Rattle.vc_eval.specs.Moves.{moved, move_steps}
 use Rattle.vc_model.specs.WeightSet.{InRange}
 use Rattle.vc_ring.specs.Steps.{outcome}
-use Rattle.vc_eval.proofs.letters.push.Given as goal
+use Rattle.vc_eval.proofs.letters.push_each.Given as goal
 
 -- what the rest of the transitions comes to from here is what all of them come to
 abbrev pub invariant-loop-transition : goal.invariant-loop-transition
