@@ -30,19 +30,22 @@ use Rattle.vc_ring.specs.declared.faults.MakeFault.{MakeFault}
 use Rattle.vc_ring.specs.declared.faults.MakeFault.TheVariants as fault
 use Rattle.vc_ring.specs.declared.faults.Measure.TheVariants.{Cells, States, Bytes as BytesOf}
 use Rattle.vc_top.specs.Answers.{IsPastReason}
-use Rattle.vc_top.specs.Automata.{AnswersCat, IsTextOf, Prints}
+use Rattle.vc_top.specs.Automata.{IsTextOf, Prints}
 use Rattle.vc_top.specs.Contexts.{AnswersContext, IsContext}
-use Rattle.vc_top.specs.Evaluations.{AnswersEval, ReadsProper, ReadsWord, cells_of}
+use Rattle.vc_top.specs.Evaluations.{AnswersEval, AnswersValue, ReadsWord, cells_of}
 use Rattle.vc_top.specs.Expressions.{AnswersExpr, AnswersExprOver, IsExpressionText, PrintsExpression, ReadsExpression, are_single, text_reason}
 use Rattle.vc_top.specs.Inputs.{Input}
+use Rattle.vc_top.specs.Operations.{AnswersPrint, IsOfClosing, IsProperOf, IsTrimOf, IsUnclosed, WithProper}
 use Rattle.vc_top.specs.Outcomes.{Gives, Outcome}
 use Rattle.vc_top.specs.Plans.{IsLoose, IsOpen, Plan, of_file, of_files, of_texts, plan_of, unbuilt}
-use Rattle.vc_top.specs.Reasons.{Reason, contexts, in_context, in_word, limit, no_label, overflow, syntax, unread, unwritten, usage}
+use Rattle.vc_top.specs.Reasons.{Reason, empty_circuit, in_context, in_word, limit, no_label, overflow, syntax, unread, unwritten, usage}
 use Rattle.vc_top.specs.Refused.{UnlessCause, make_reason}
-use Rattle.vc_top.specs.Sets.{texts_of, value_of, truth_weights, residue_weights, whole_weights, fraction_weights, tropical_weights}
-use Rattle.vc_top.specs.Standards.{AnswersEvalText, AnswersStandard, AnswersValue, IsOfConstruction, IsStandard, IsUnmade, WithStandard, most_states}
+use Rattle.vc_top.specs.Sets.{absorbs, texts_of, value_of, truth_weights, residue_weights, whole_weights, fraction_weights, tropical_weights}
+use Rattle.vc_top.specs.Standards.{AnswersEvalText, AnswersStandard, IsOfConstruction, IsStandard, IsUnmade, WithStandard, most_states}
+use Rattle.vc_top.specs.declared.operation.Operation.TheVariants as operation
 use Rattle.vc_top.specs.declared.refusal.Bound.TheVariants.{Of}
 use Rattle.vc_top.proofs.Lawful.{Alike, Freedom, IsKept, IsLawful, after, any, decided, for_such, gives, may, unless, with_one}
+use Rattle.vc_top.proofs.OneMade.{proper_once, trim_once}
 use Rattle.vc_top.proofs.OneStandard.{standard_once}
 
 -- the reasons of what is read in words, and of operations; a text may have too many bytes
@@ -177,18 +180,6 @@ module _ {V : Type 0} (T : WeightTexts V) (one : OneAnswer V) (sets : List TapeS
 expr : (Open : Freedom) → AreTexts → (over text : Bytes) → IsLawful IsWordReason Open (AnswersExpr over text)
 expr Open one over text = with_one IsWordReason Open (IsContext over) (syntax in_context) _ (one.context over) tt (λ c. expr_over (texts_of c.1) (one.expression c.1) c.0 text Open)
 
-cat : (Open : Freedom) (x : Input) → IsLawful IsTextReason Open (AnswersCat x)
-cat Open x = prints IsTextReason Open (texts_of x.weights) x.weights x.of
-
--- the word of a text over a proper automaton
-proper_word : {V : Type 0} → OneWord → (a : Labelled V) (text : Bytes) → IsLawful IsTextReason decided (ReadsProper a text)
-proper_word one a text = after IsTextReason decided (ReadsWord a.sets text) _ (word IsTextReason decided tt tt one a.sets text) (λ w. unless IsTextReason decided _ contexts _ tt (gives IsTextReason decided w))
-
-eval : (Open : Freedom) → OneWord → (text : Bytes) (x : Input) → IsLawful IsTextReason Open (AnswersEval text x)
-eval Open one text x =
-    after IsTextReason Open (ReadsProper x.of text) _ (proper_word one x.of text) (λ w.
-    valued IsTextReason Open (texts_of x.weights) tt tt w _ x.of)
-
 -- an expression has one standard automaton over these elements
 abbrev OneStandardOver : {V : Type 0} → WeightTexts V → Type 0
 OneStandardOver {V} T = (sets : List TapeSet) (t : Term V) (a b : Labelled V) → IsStandard T sets t a → IsStandard T sets t b → a ≡ b
@@ -230,6 +221,55 @@ module _ (Open : Freedom) (loose : (r : Reason) → IsOfConstruction r → Open.
       after IsWordReason Open (ReadsWord c.0 second) _ (word IsWordReason decided tt tt texts.word c.0 second) (λ w.
       with_standard (texts_of c.1) (one_standard texts.total c.1) c.0 most_states _ (valued IsPastReason Open (texts_of c.1) tt tt w _) (valued IsWordReason Open (texts_of c.1) tt tt w _) t)))
 
+-- an automaton has one without empty labels over these elements, and one of its useful states
+abbrev OneProperOver : {V : Type 0} → WeightTexts V → Type 0
+OneProperOver {V} T = (a p q : Labelled V) → IsProperOf T a p → IsProperOf T a q → p ≡ q
+
+one_proper : IsTotalOrder word_order → (w : Weights) → OneProperOver (texts_of w)
+one_proper total B = proper_once truth_weights truth_laws total
+one_proper total F2 = proper_once residue_weights residue_laws total
+one_proper total Z = proper_once whole_weights whole_laws total
+one_proper total Q = proper_once fraction_weights rational_laws total
+one_proper total Nmin = proper_once tropical_weights tropical_laws total
+
+-- commands over the automaton of a file, and over the one without empty labels
+module _ (Open : Freedom) (loose : (r : Reason) → IsOfClosing r → Open.refusals r) where
+  module _ {V : Type 0} (T : WeightTexts V) (one : OneProperOver T) (is_absorbing : Bool) (a : Labelled V) where
+    unclosed_kept : (r : Reason) → IsUnclosed T a r → IsTextReason r
+    unclosed_kept r (inl p) = subst IsTextReason (sym p.0) tt
+    unclosed_kept r (inr (inl p)) = subst IsTextReason (sym p.0) tt
+    unclosed_kept r (inr (inr p)) = subst IsTextReason (sym p.0) tt
+
+    unclosed_past : (r : Reason) → IsUnclosed T a r → IsPastReason r × Open.refusals r
+    unclosed_past r (inl p) = (subst IsPastReason (sym p.0) tt, loose r (subst IsOfClosing (sym p.0) tt))
+    unclosed_past r (inr (inl p)) = (subst IsPastReason (sym p.0) tt, loose r (subst IsOfClosing (sym p.0) tt))
+    unclosed_past r (inr (inr p)) = (subst IsPastReason (sym p.0) tt, loose r (subst IsOfClosing (sym p.0) tt))
+
+    with_proper : (rest : Labelled V → Outcome Bytes) → ((p : Labelled V) → IsLawful IsPastReason Open (rest p)) → ((p : Labelled V) → IsLawful IsTextReason Open (rest p)) → IsLawful IsTextReason Open (WithProper T is_absorbing a rest)
+    with_proper rest past l =
+        unless IsTextReason Open _ empty_circuit _ tt (
+        may IsTextReason Open (IsUnclosed T a) _ unclosed_kept unclosed_past (λ x p. (past p.0).kept x p.2) (for_such IsTextReason Open (IsProperOf T a) rest (one a) l))
+
+  proper : AreTexts → (x : Input) → IsLawful IsTextReason Open (AnswersPrint operation.Proper x)
+  proper texts x =
+      with_proper (texts_of x.weights) (one_proper texts.total x.weights) (absorbs x.weights) x.of _
+      (prints IsPastReason Open (texts_of x.weights) x.weights) (prints IsTextReason Open (texts_of x.weights) x.weights)
+
+  eval : AreTexts → (text : Bytes) (x : Input) → IsLawful IsTextReason Open (AnswersEval text x)
+  eval texts text x =
+      after IsTextReason Open (ReadsWord x.of.sets text) _ (word IsTextReason decided tt tt texts.word x.of.sets text) (λ w.
+      with_proper (texts_of x.weights) (one_proper texts.total x.weights) (absorbs x.weights) x.of _
+      (valued IsPastReason Open (texts_of x.weights) tt tt w _) (valued IsTextReason Open (texts_of x.weights) tt tt w _))
+
+module _ (Open : Freedom) where
+  cat : (x : Input) → IsLawful IsTextReason Open (AnswersPrint operation.Itself x)
+  cat x = prints IsTextReason Open (texts_of x.weights) x.weights x.of
+
+  trim : (x : Input) → IsLawful IsTextReason Open (AnswersPrint operation.Trim x)
+  trim x =
+      for_such IsTextReason Open (IsTrimOf (texts_of x.weights) x.of) (Prints (texts_of x.weights) x.weights) (trim_once (texts_of x.weights) x.of)
+      (prints IsTextReason Open (texts_of x.weights) x.weights)
+
 -- what a request leaves open
 abbrev pub freedom_of : Option Asked → Freedom
 freedom_of request = record { texts = IsOpen request; refusals = IsLoose request }
@@ -245,7 +285,9 @@ pub plans_are_lawful : AreTexts → (request : Option Asked) → IsLawfulPlan (f
 plans_are_lawful one (Some (asked.context text)) = context _ one text
 plans_are_lawful one (Some (asked.expr over text)) = expr _ one over text
 plans_are_lawful one (Some (asked.cat file)) = cat _
-plans_are_lawful one (Some (asked.eval_file file text)) = eval _ one.word text
+plans_are_lawful one (Some (asked.proper file)) = proper _ (λ r o. o) one
+plans_are_lawful one (Some (asked.trim file)) = trim _
+plans_are_lawful one (Some (asked.eval_file file text)) = eval _ (λ r o. o) one text
 plans_are_lawful one (Some (asked.eval_expr over text second)) = eval_text _ (λ r o. o) one over text second
 plans_are_lawful one (Some (asked.standard over text most)) = standard _ (λ r o. o) one over text most
 plans_are_lawful one other = tt

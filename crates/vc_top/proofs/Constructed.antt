@@ -22,13 +22,13 @@ use Rattle.vc_terms.specs.Forms.{Everywhere, EverywhereIn}
 use Rattle.vc_terms.specs.Terms.{Term, Terms, NoTerms, MoreTerms, Zero, One, Atom, Sum, Product, Star, Weight, Both, Shuffle, bound_of, coefficient_of}
 use Rattle.vc_top.specs.Automata.{Prints}
 use Rattle.vc_top.specs.Contexts.{IsContext}
-use Rattle.vc_top.specs.Evaluations.{AnswersWord, ReadsWord}
+use Rattle.vc_top.specs.Evaluations.{AnswersValue, AnswersWord, ReadsWord}
 use Rattle.vc_top.specs.Expressions.{ReadsExpression}
 use Rattle.vc_top.specs.Outcomes.{Answer, Gives, Outcome, OrMemory, Then, WithOne}
 use Rattle.vc_top.specs.Reasons.{Reason, in_context, limit, no_memory, overflow, syntax}
 use Rattle.vc_top.specs.Refused.{make_reason}
 use Rattle.vc_top.specs.Sets.{texts_of}
-use Rattle.vc_top.specs.Standards.{AnswersEvalText, AnswersEvalTextOver, AnswersStandard, AnswersStandardOver, AnswersValue, IsStandard, ReadsWithStandard, WithStandard, most_states}
+use Rattle.vc_top.specs.Standards.{AnswersEvalText, AnswersEvalTextOver, AnswersStandard, AnswersStandardOver, IsStandard, ReadsWithStandard, WithStandard, most_states}
 use Rattle.vc_top.specs.declared.refusal.Bound.TheVariants.{Of}
 use Rattle.vc_top.proofs.Outcomes.{then_given, then_refused}
 

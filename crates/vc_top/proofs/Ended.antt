@@ -1,5 +1,5 @@
 -- What the status says of the answer.
-use Rattle.std.proofs.Common.{◌≡◌, ◌≢◌, ◌⊎◌, ◌∙◌, ℕ, List, Option, None, Some, Result, Ok, Err, refl, sym, ap, subst, inl, inr}
+use Rattle.std.proofs.Common.{◌≡◌, ◌≢◌, ◌⊎◌, ◌∙◌, ℕ, Bool, List, Option, None, Some, Result, Ok, Err, refl, sym, ap, subst, inl, inr}
 use Rattle.std.specs.Io.KnownBytes.{Appends}
 use Rattle.vc_aut.specs.Labelled.{Labelled}
 use Rattle.vc_command.specs.Requests.{Asked}
@@ -14,14 +14,14 @@ use Rattle.vc_ring.specs.Texts.{WeightTexts}
 use Rattle.vc_ring.specs.declared.faults.Measure.TheVariants as measure
 use Rattle.vc_top.specs.Answers.{Allows, HasCause, IsUsage, names_of}
 use Rattle.vc_top.specs.Delivery.{Delivers, IsSent, Reports}
-use Rattle.vc_top.specs.Inputs.{Input, IsUnfit, ReadsBytes, ReadsFile, ReadsLines, ReadsText}
+use Rattle.vc_top.specs.Inputs.{Input, IsUnfit, ReadsBytes, ReadsFile, ReadsLines, ReadsSound, ReadsText}
 use Rattle.vc_top.specs.Messages.{message}
 use Rattle.vc_top.specs.Outcomes.{Answer, OrMemory}
 use Rattle.vc_top.specs.Plans.{Answers, IsUnbuilt, Plan, files_of, of_file, of_files, of_texts, plan_of, unbuilt}
 use Rattle.vc_top.specs.Reasons.{Reason, status_of, usage, unread, unwritten, syntax, no_label, no_star, empty_circuit, overflow, limit, contexts, order, no_memory}
 use Rattle.vc_top.specs.Rows.{IsRun}
 use Rattle.vc_top.specs.Seen.{HasFailed, Seen}
-use Rattle.vc_top.specs.Sets.{texts_of}
+use Rattle.vc_top.specs.Sets.{absorbs, texts_of}
 use Rattle.vc_top.specs.Views.{reason_of_words}
 use Rattle.vc_top.specs.declared.refusal.Bound.TheVariants.{Of, Words}
 use Rattle.vc_top.specs.declared.status.Status.{Status}
@@ -76,9 +76,14 @@ module _ {V : Type 0} (T : WeightTexts V) (file : Bytes) (sets : List TapeSet) (
   lines_kept r (inr (n, inr (m, inl p))) = subst (IsKept IsTextReason) (sym p.2) (unfit_reason p.0 p.1)
   lines_kept r (inr (n, inr (m, inr p))) = subst (IsKept IsTextReason) (sym p.1.2) tt
 
+  sound_kept : (is_absorbing : Bool) (r : Result (Labelled V) Reason) → ReadsSound T is_absorbing file sets h r → IsKept IsTextReason r
+  sound_kept is_absorbing r (inl p) = subst (IsKept IsTextReason) (sym p.2) (lines_kept (Err p.0) p.1)
+  sound_kept is_absorbing r (inr (a, k, inl p)) = subst (IsKept IsTextReason) (sym p.1) tt
+  sound_kept is_absorbing r (inr (a, k, inr p)) = subst (IsKept IsTextReason) (sym p.1) tt
+
 text_kept : (file bytes : Bytes) (r : Result Input Reason) → ReadsText file bytes r → IsKept IsTextReason r
 text_kept file bytes r (inl p) = subst (IsKept IsTextReason) (sym p.1) tt
-text_kept file bytes r (inr (f, h, inl p)) = subst (IsKept IsTextReason) (sym p.2) (lines_kept (texts_of f.weights) file f.sets f.head (Err p.0) p.1)
+text_kept file bytes r (inr (f, h, inl p)) = subst (IsKept IsTextReason) (sym p.2) (sound_kept (texts_of f.weights) file f.sets f.head (absorbs f.weights) (Err p.0) p.1)
 text_kept file bytes r (inr (f, h, inr p)) = subst (IsKept IsTextReason) (sym p.2) tt
 
 -- what a reason says of the plan, and of the files

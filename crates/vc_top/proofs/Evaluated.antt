@@ -3,7 +3,6 @@ use Rattle.std.proofs.Common.{◌≡◌, List, [], ◌∷◌, ◌++◌, ℕ, suc
 use Rattle.std.specs.Prelude.{String, string_bytes, if◌then◌else◌}
 use Rattle.std.specs.Global.{Global}
 use Rattle.vc_aut.specs.Labelled.{Labelled}
-use Rattle.vc_aut.specs.EmptyLabels.{HasEmptyLabel}
 use Rattle.vc_eval.specs.Cells.{IsTupleAnswer, cells, cells_refusal, refusal_of, tuple_cells, tuple_refusal}
 use Rattle.vc_eval.specs.Forward.{forward_steps}
 use Rattle.vc_files.specs.Files.{Bytes}
@@ -18,11 +17,11 @@ use Rattle.vc_ring.specs.declared.faults.MakeFault.{MakeFault}
 use Rattle.vc_ring.specs.declared.faults.MakeFault.TheVariants as fault
 use Rattle.vc_ring.specs.declared.faults.Overflow.{Overflow}
 use Rattle.vc_ring.specs.Texts.{WeightTexts}
-use Rattle.vc_top.specs.Evaluations.{AnswersEvalOver, AnswersSteps, AnswersWord, HasUnfitStep, IsCoefficient, ReadsProper, ReadsWord, is_one}
-use Rattle.vc_top.specs.Outcomes.{Answer, Gives, Outcome, OrMemory, Unless}
-use Rattle.vc_top.specs.Reasons.{Reason, contexts, overflow}
+use Rattle.vc_top.specs.Evaluations.{AnswersSteps, AnswersWord, HasUnfitStep, IsCoefficient, is_one}
+use Rattle.vc_top.specs.Outcomes.{Answer, Outcome, OrMemory}
+use Rattle.vc_top.specs.Reasons.{overflow}
 use Rattle.vc_top.specs.Refused.{UnlessCause, make_reason}
-use Rattle.vc_top.proofs.Outcomes.{then_given, then_refused, wider}
+use Rattle.vc_top.proofs.Outcomes.{wider}
 
 no_unfit : {V : Type 0} (R : WeightSet V) (steps : List (Overflow V)) → AllFit R steps → ¬ HasUnfitStep R steps
 no_unfit R [] a u = absurd u.1
@@ -78,24 +77,6 @@ module _ {V : Type 0} (T : WeightTexts V) where
 
   pub several_answered : (a : Labelled V) (w : Word) (b : Answer) → is_one a.sets ≡ false → OrMemory (UnlessCause (tuple_refusal a.automaton w) (AnswersSteps T a.automaton w)) b → OrMemory (AnswersWord T a w) b
   several_answered a w b e p = subst (λ t. OrMemory (UnlessCause {V = V} (refusal_of (if t then cells a.automaton else tuple_cells a.automaton w)) (AnswersSteps T a.automaton w)) b) (sym e) p
-
-  -- the answer for the word of a text
-  pub word_answered : (a : Labelled V) (text : Bytes) (w : Word) (b : Answer) → OrMemory (ReadsProper a text) (Ok w) → OrMemory (AnswersWord T a w) b → OrMemory (AnswersEvalOver T text a) b
-  word_answered a text w b r p = then_given (ReadsProper a text) (AnswersWord T a) w b r p
-
-  pub word_refused : (a : Labelled V) (text : Bytes) (reason : Reason) → OrMemory (ReadsProper a text) (Err reason) → OrMemory (AnswersEvalOver T text a) (Err reason)
-  word_refused a text reason r = then_refused (ReadsProper a text) (AnswersWord T a) reason r
-
--- the word of a text, over an automaton without empty labels, and with one
-module _ {V : Type 0} (a : Labelled V) (text : Bytes) where
-  pub proper_read : (w : Word) → OrMemory (ReadsWord a.sets text) (Ok w) → ¬ HasEmptyLabel a.automaton → OrMemory (ReadsProper a text) (Ok w)
-  proper_read w r n = then_given (ReadsWord a.sets text) (λ v. Unless (HasEmptyLabel a.automaton) contexts (Gives v)) w (Ok w) r (inr (inr (n, refl)))
-
-  pub proper_not : (w : Word) → OrMemory (ReadsWord a.sets text) (Ok w) → HasEmptyLabel a.automaton → OrMemory (ReadsProper a text) (Err contexts)
-  proper_not w r h = then_given (ReadsWord a.sets text) (λ v. Unless (HasEmptyLabel a.automaton) contexts (Gives v)) w (Err contexts) r (inr (inl (h, refl)))
-
-  pub no_word : (reason : Reason) → OrMemory (ReadsWord a.sets text) (Err reason) → OrMemory (ReadsProper a text) (Err reason)
-  no_word reason r = then_refused (ReadsWord a.sets text) (λ v. Unless (HasEmptyLabel a.automaton) contexts (Gives v)) reason r
 
 -- so many tapes
 pub one_tape : (sets : List TapeSet) → is_one sets ≡ true → length sets ≡ 1

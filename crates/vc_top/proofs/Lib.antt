@@ -6,6 +6,10 @@ pub mod Printed
 pub mod Expressed
 pub mod Constructed
 pub mod OneStandard
+pub mod Made
+pub mod Closed
+pub mod OneMade
+pub mod Sounded
 pub mod Failed
 pub mod Planned
 pub mod Lawful

@@ -30,12 +30,12 @@ use Rattle.vc_rat.specs.declared.fraction.Fraction.{Fraction}
 use Rattle.vc_ring.specs.declared.faults.Measure.TheVariants.{Bytes as BytesOf}
 use Rattle.vc_ring.specs.Texts.{WeightTexts}
 use Rattle.vc_top.specs.Answers.{Agree, Allows, AreOfOnePart, IsFree, IsPastReason}
-use Rattle.vc_top.specs.Inputs.{HasContext, Headed, IsBadLine, IsForeignLabel, IsReading, IsUnfit, SpellsLines, ReadsBytes, ReadsFile, ReadsLines, ReadsText, most_bytes}
+use Rattle.vc_top.specs.Inputs.{HasContext, HasRefusedCircuit, Headed, IsBadLine, IsForeignLabel, IsReading, IsUnfit, SoundOnly, SpellsLines, ReadsBytes, ReadsFile, ReadsLines, ReadsSound, ReadsText, most_bytes}
 use Rattle.vc_top.specs.Outcomes.{Answer, Gives, Then, Unless}
 use Rattle.vc_top.specs.Plans.{Answers, Plan, of_file, of_files, of_texts, plan_of, unbuilt}
-use Rattle.vc_top.specs.Reasons.{Reason, in_line, limit, no_label, syntax}
+use Rattle.vc_top.specs.Reasons.{Reason, empty_circuit, in_line, limit, no_label, syntax}
 use Rattle.vc_top.specs.Seen.{Seen, seen}
-use Rattle.vc_top.specs.Sets.{texts_of, truth_weights, residue_weights, whole_weights, fraction_weights, tropical_weights}
+use Rattle.vc_top.specs.Sets.{absorbs, texts_of, truth_weights, residue_weights, whole_weights, fraction_weights, tropical_weights}
 use Rattle.vc_top.specs.declared.refusal.Bound.TheVariants.{Of}
 use Rattle.vc_top.proofs.Commands.{IsLawfulPlan, OneAnswer, OneWord, freedom_of, plans_are_lawful, texts_are}
 use Rattle.vc_top.proofs.Lawful.{Alike, Freedom, IsKept, IsLawful, after, any, decided, for_such, gives, unless, with_one}
@@ -126,10 +126,15 @@ module _
   lines_of_set Q = lines_over fraction_weights rational_laws fractions fractions_apart
   lines_of_set Nmin = lines_over tropical_weights tropical_laws costs costs_apart
 
+  sound_of_set : (w : Weights) (file : Bytes) (sets : List TapeSet) (h : HeadLine) → IsLawful Every decided (ReadsSound (texts_of w) (absorbs w) file sets h)
+  sound_of_set w file sets h =
+      after Every decided (ReadsLines (texts_of w) file sets h) (SoundOnly (absorbs w)) (lines_of_set w file sets h) (λ a.
+      unless Every decided (HasRefusedCircuit (absorbs w) a) empty_circuit (Gives a) tt (gives Every decided a))
+
   text : (file bytes : Bytes) → IsLawful Every decided (ReadsText file bytes)
   text file bytes =
       with_one Every decided (HasContext bytes) _ _ (one_head bytes) tt (λ f.
-      after Every decided (ReadsLines (texts_of f.weights) file f.sets f.head) _ (lines_of_set f.weights file f.sets f.head) (λ a. gives Every decided _))
+      after Every decided (ReadsSound (texts_of f.weights) (absorbs f.weights) file f.sets f.head) _ (sound_of_set f.weights file f.sets f.head) (λ a. gives Every decided _))
 
   module _ (files : (held : Held) (name first second : Bytes) → Holds held name first → Holds held name second → first ≡ second) (h : Held) (before after_call : List Bytes) where
     bytes_agree : (file : Bytes) (a b : Answer) → ReadsBytes (seen (Some h) before after_call) file a → ReadsBytes (seen (Some h) before after_call) file b → Alike decided a b

@@ -23,7 +23,7 @@ use Rattle.vc_terms.specs.Terms.{Term}
 use Rattle.vc_top.specs.Standards.{IsStandard}
 
 -- lists of one length with the same members at each place
-same_list : {X : Type 0} (d : X) (xs ys : List X) → length xs ≡ length ys → ((p : ℕ) → p < length xs → slice_index_or xs p d ≡ slice_index_or ys p d) → xs ≡ ys
+pub same_list : {X : Type 0} (d : X) (xs ys : List X) → length xs ≡ length ys → ((p : ℕ) → p < length xs → slice_index_or xs p d ≡ slice_index_or ys p d) → xs ≡ ys
 same_list d [] [] e h = refl
 same_list d [] (y ∷ ys) e h = absurd (omega (arith, e))
 same_list d (x ∷ xs) [] e h = absurd (omega (arith, e))
@@ -38,10 +38,10 @@ module _ {V : Type 0} (R : WeightSet V) (total : IsTotalOrder word_order) where
   with_triple : ℕ × Word × ℕ → Transition V
   with_triple d = record { from = d.0; label = d.1; to = d.2; weight = R.zero }
 
-  before : ℕ × Word × ℕ → ℕ × Word × ℕ → Bool
+  pub before : ℕ × Word × ℕ → ℕ × Word × ℕ → Bool
   before a b = is_lt (triple_order (with_triple a) (with_triple b))
 
-  one_way : (a b : ℕ × Word × ℕ) → before a b ≡ true → before b a ≡ false
+  pub one_way : (a b : ℕ × Word × ℕ) → before a b ≡ true → before b a ≡ false
   unfolding before
   one_way a b h = go (triple_order (with_triple a) (with_triple b)) h (triple_order (with_triple b) (with_triple a)) (triples_total.antisymm (with_triple a) (with_triple b))
     where
@@ -56,18 +56,18 @@ module _ {V : Type 0} (R : WeightSet V) (total : IsTotalOrder word_order) where
   after_head t (x ∷ ts) a u (inl e) = ap is_lt (ap (triple_order t) e ∙ a.0)
   after_head t (x ∷ ts) a u (inr j) = after_head t ts a.1 u j
 
-  ascending : (ts : List (Transition V)) → AreInOrder ts → IsAscending (λ t u. before (triple t) (triple u)) ts
+  pub ascending : (ts : List (Transition V)) → AreInOrder ts → IsAscending (λ t u. before (triple t) (triple u)) ts
   ascending [] h = tt
   ascending (t ∷ ts) h = (after_head t ts (sorted_head triple_order t ts h), ascending ts (sorted_tail triple_order t ts h))
 
-same_automaton : {V : Type 0} (A B : Automaton V) → A.states ≡ B.states → A.initial ≡ B.initial → A.final ≡ B.final → A.transitions ≡ B.transitions → A ≡ B
+pub same_automaton : {V : Type 0} (A B : Automaton V) → A.states ≡ B.states → A.initial ≡ B.initial → A.final ≡ B.final → A.transitions ≡ B.transitions → A ≡ B
 same_automaton A B n i f t =
     ap (λ x. record { states = x; initial = A.initial; final = A.final; transitions = A.transitions }) n
     ∙ ap (λ x. record { states = B.states; initial = x; final = A.final; transitions = A.transitions }) i
     ∙ ap (λ x. record { states = B.states; initial = B.initial; final = x; transitions = A.transitions }) f
     ∙ ap (λ x. record { states = B.states; initial = B.initial; final = B.final; transitions = x }) t
 
-abbrev labelled : {V : Type 0} → List TapeSet → Automaton V → Labelled V
+abbrev pub labelled : {V : Type 0} → List TapeSet → Automaton V → Labelled V
 labelled sets A = record { sets = sets; automaton = A }
 
 module _ {V : Type 0} (T : WeightTexts V) (L : SemiringLaws T.set) (total : IsTotalOrder word_order) (sets : List TapeSet) (t : Term V) (a b : Labelled V) (p : IsStandard T sets t a) (q : IsStandard T sets t b) where

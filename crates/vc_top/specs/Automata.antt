@@ -1,4 +1,4 @@
--- Commands that print an automaton.
+-- What is printed of an automaton.
 use Rattle.std.specs.Prelude.{◌≡◌}
 use Rattle.vc_aut.specs.Labelled.{Labelled}
 use Rattle.vc_context.specs.declared.context.Weights.{Weights}
@@ -6,9 +6,7 @@ use Rattle.vc_daut.specs.Canonical.{automaton_text}
 use Rattle.vc_reader.specs.Spelling.{SpellsAutomaton}
 use Rattle.vc_files.specs.Files.{Bytes}
 use Rattle.vc_ring.specs.Texts.{WeightTexts}
-use Rattle.vc_top.specs.Inputs.{Input}
 use Rattle.vc_top.specs.Outcomes.{ForSuch, Gives, Outcome}
-use Rattle.vc_top.specs.Sets.{texts_of}
 
 -- the text of an automaton over a weight set, whose name is given: the canonical one, which spells the automaton
 pub record IsTextOf {V : Type 0} (T : WeightTexts V) (weights : Weights) (a : Labelled V) (text : Bytes) : Type 0 where
@@ -18,7 +16,3 @@ pub record IsTextOf {V : Type 0} (T : WeightTexts V) (weights : Weights) (a : La
 -- the text of the automaton
 abbrev pub Prints : {V : Type 0} → WeightTexts V → Weights → Labelled V → Outcome Bytes
 Prints T weights a = ForSuch (IsTextOf T weights a) Gives
-
--- `cat`
-abbrev pub AnswersCat : Input → Outcome Bytes
-AnswersCat input = Prints (texts_of input.weights) input.weights input.of

@@ -2,17 +2,17 @@
 use Rattle.std.specs.Prelude.{◌≡◌, Err, ⊤}
 use Rattle.vc_command.specs.Requests.{IsLimit}
 use Rattle.vc_files.specs.Files.{Bytes}
-use Rattle.vc_top.specs.Automata.{AnswersCat}
 use Rattle.vc_top.specs.Contexts.{AnswersContext}
 use Rattle.vc_top.specs.Evaluations.{AnswersEval}
 use Rattle.vc_top.specs.Expressions.{AnswersExpr}
 use Rattle.vc_top.specs.Inputs.{Input}
+use Rattle.vc_top.specs.Operations.{AnswersPrint}
 use Rattle.vc_top.specs.Outcomes.{Answer, Outcome}
 use Rattle.vc_top.specs.Plans.{Plan, of_file, of_texts, unbuilt}
 use Rattle.vc_top.specs.Reasons.{usage}
 use Rattle.vc_top.specs.Standards.{AnswersEvalText, AnswersStandard}
 use Rattle.vc_top.specs.declared.plan.FileCommand.{FileCommand}
-use Rattle.vc_top.specs.declared.plan.FileCommand.TheVariants.{Cat, Eval}
+use Rattle.vc_top.specs.declared.plan.FileCommand.TheVariants.{Print, Eval}
 use Rattle.vc_top.specs.declared.plan.Plan.{Plan as Code}
 use Rattle.vc_top.specs.declared.plan.Plan.TheVariants.{Texts, File}
 use Rattle.vc_top.specs.declared.plan.TextCommand.{TextCommand}
@@ -38,7 +38,7 @@ HasLimits other = ⊤
 
 -- a command, to the automaton of its file
 abbrev pub AnswersFile : FileCommand → Input → Outcome Bytes
-AnswersFile Cat = AnswersCat
+AnswersFile (Print operation) = AnswersPrint operation
 AnswersFile (Eval word) = AnswersEval word.now
 
 -- the code reads the files of this plan, and each answer of its command is one of the plan

@@ -1,6 +1,5 @@
 -- What the evaluation of a word in an automaton answers, in the order of refusals.
 use Rattle.std.specs.Prelude.{◌≡◌, ℕ, List, [], ◌∷◌, ◌++◌, Bool, true, false, Option, None, Some, Result, Ok, Err, if◌then◌else◌, ⊤}
-use Rattle.vc_aut.specs.EmptyLabels.{HasEmptyLabel}
 use Rattle.vc_aut.specs.Labelled.{Labelled}
 use Rattle.vc_eval.specs.Cells.{cells, refusal_of, tuple_cells}
 use Rattle.vc_eval.specs.Forward.{forward_steps}
@@ -16,11 +15,12 @@ use Rattle.vc_ring.specs.declared.faults.MakeFault.{MakeFault}
 use Rattle.vc_ring.specs.declared.faults.MakeFault.TheVariants as fault
 use Rattle.vc_ring.specs.declared.faults.Overflow.{Overflow}
 use Rattle.vc_ring.specs.Texts.{WeightTexts}
-use Rattle.vc_top.specs.Reasons.{contexts, in_word, no_label, overflow, syntax}
+use Rattle.vc_top.specs.Reasons.{in_word, no_label, overflow, syntax}
 use Rattle.vc_top.specs.Inputs.{Input}
+use Rattle.vc_top.specs.Operations.{WithProper}
 use Rattle.vc_top.specs.Outcomes.{Gives, Outcome, Then, Unless, WithOne}
 use Rattle.vc_top.specs.Refused.{UnlessCause}
-use Rattle.vc_top.specs.Sets.{texts_of}
+use Rattle.vc_top.specs.Sets.{absorbs, texts_of}
 
 -- some step of the list does not fit
 abbrev pub HasUnfitStep : {V : Type 0} → WeightSet V → List (Overflow V) → Type 0
@@ -39,10 +39,6 @@ cells_of sets automaton word = if is_one sets then cells automaton else tuple_ce
 -- the word of a text: `Syntax` where the text spells none, `NotALabel` where it has other tapes than the labels, or a letter that is not in the alphabet of its tape
 abbrev pub ReadsWord : List TapeSet → Bytes → Outcome Word
 ReadsWord sets text = WithOne (SpellsWord text) (syntax in_word) (λ word. Unless (¬ IsOverAlphabets sets word) (no_label in_word) (Gives word))
-
--- the same, where no transition has an empty label; else the contexts do not fit
-abbrev pub ReadsProper : {V : Type 0} → Labelled V → Bytes → Outcome Word
-ReadsProper a text = Then (ReadsWord a.sets text) (λ word. Unless (HasEmptyLabel a.automaton) contexts (Gives word))
 
 -- the coefficient at a word by forward rows, or why there is none, where the rows are refused for this cause
 abbrev pub IsCoefficient : {V : Type 0} → WeightSet V → Option (MakeFault V) → Automaton V → Word → Result V (MakeFault V) → Type 0
@@ -64,9 +60,20 @@ module _ {V : Type 0} (T : WeightTexts V) where
   abbrev pub AnswersWord : Labelled V → Word → Outcome Bytes
   AnswersWord a word = UnlessCause {V = V} (refusal_of (cells_of a.sets a.automaton word)) (AnswersSteps a.automaton word)
 
-  abbrev pub AnswersEvalOver : Bytes → Labelled V → Outcome Bytes
-  AnswersEvalOver text a = Then (ReadsProper a text) (AnswersWord a)
+  -- a value of an automaton at a word, and a line feed: `Limit` where the forward rows have too many cells, and `Overflow` where a step of them does not fit
+  abbrev pub AnswersValue : Word → V → Labelled V → Outcome Bytes
+  AnswersValue word value a =
+      UnlessCause {V = V} (refusal_of (cells_of a.sets a.automaton word)) (
+      Unless (HasUnfitStep T.set (forward_steps T.set a.automaton word)) overflow (Gives (T.canonical value ++ 10 ∷ [])))
+
+  -- the word of a text, and the automaton without empty labels
+  abbrev pub ReadsWithProper : Bool → Labelled V → Bytes → Outcome (Word × Labelled V)
+  ReadsWithProper is_absorbing a text = Then (ReadsWord a.sets text) (λ w. WithProper T is_absorbing a (λ p. Gives (w, p)))
+
+  -- the coefficient of an automaton at the word of a text, by the automaton without empty labels
+  abbrev pub AnswersEvalOver : Bool → Bytes → Labelled V → Outcome Bytes
+  AnswersEvalOver is_absorbing text a = Then (ReadsWord a.sets text) (λ w. WithProper T is_absorbing a (AnswersValue w (coefficient T.set a.automaton w)))
 
 -- the same for the automaton of a file
 abbrev pub AnswersEval : Bytes → Input → Outcome Bytes
-AnswersEval text input = AnswersEvalOver (texts_of input.weights) text input.of
+AnswersEval text input = AnswersEvalOver (texts_of input.weights) (absorbs input.weights) text input.of

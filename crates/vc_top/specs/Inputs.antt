@@ -1,5 +1,5 @@
 -- What the text of a file is refused for, in the order of refusals, and the automaton that it spells.
-use Rattle.std.specs.Prelude.{◌≡◌, ◌⊎◌, ◌<◌, ℕ, ◌+◌, List, [], length, Option, None, Some, Result, Err}
+use Rattle.std.specs.Prelude.{◌≡◌, ◌⊎◌, ◌<◌, ℕ, ◌+◌, Bool, false, List, [], length, Option, None, Some, Result, Err}
 use Rattle.std.specs.List.{flat_map}
 use Rattle.vc_aut.specs.Labelled.{Labelled}
 use Rattle.vc_context.specs.Spelling.{SpellsContext}
@@ -15,13 +15,13 @@ use Rattle.vc_reader.specs.Spelling.{Spells, bad_line, lines_in, IsFirstLabel}
 use Rattle.vc_reader.specs.declared.fault.DautFault.{DautFault}
 use Rattle.vc_files.specs.Files.{Bytes}
 use Rattle.vc_label.specs.declared.tape_set.TapeSet.{TapeSet}
-use Rattle.vc_model.specs.Automata.{Automaton}
+use Rattle.vc_model.specs.Automata.{Automaton, IsEmptyCircuit, Transition}
 use Rattle.vc_ring.specs.declared.faults.Measure.TheVariants.{States, Transitions, Bytes as BytesOf}
 use Rattle.vc_ring.specs.Texts.{WeightTexts}
 use Rattle.vc_top.specs.Outcomes.{ForSuch, Gives, Outcome, Then, Unless, UnlessAny, WithOne}
-use Rattle.vc_top.specs.Reasons.{Reason, in_line, syntax, no_label, overflow, limit, unread}
+use Rattle.vc_top.specs.Reasons.{Reason, in_line, syntax, no_label, empty_circuit, overflow, limit, unread}
 use Rattle.vc_top.specs.Seen.{HasFailed, Seen, Reads}
-use Rattle.vc_top.specs.Sets.{texts_of, value_of}
+use Rattle.vc_top.specs.Sets.{absorbs, texts_of, value_of}
 use Rattle.vc_top.specs.declared.refusal.Bound.TheVariants.{Of}
 
 -- the first line of a file that is not blank, and the context that it spells
@@ -45,6 +45,18 @@ head_number last (Some h) = h.number
 pub record Input : Type 0 where
   pub weights : Weights
   pub of : Labelled (value_of weights)
+
+-- one does not absorb, and a path that is not the empty one leads from a state to itself with an empty label
+abbrev pub HasRefusedCircuit : {V : Type 0} → Bool → Labelled V → Type 0
+HasRefusedCircuit {V} is_absorbing a = (is_absorbing ≡ false) × (p : ℕ) × (ts : List (Transition V)) × IsEmptyCircuit (length a.sets) a.automaton p ts
+
+-- no circuit of the input is refused
+abbrev pub IsSoundInput : Input → Type 0
+IsSoundInput x = ¬ HasRefusedCircuit (absorbs x.weights) x.of
+
+-- the automaton, where no circuit of it is refused
+abbrev pub SoundOnly : {V : Type 0} → Bool → Labelled V → Outcome (Labelled V)
+SoundOnly is_absorbing a = Unless (HasRefusedCircuit is_absorbing a) empty_circuit (Gives a)
 
 module _ {V : Type 0} (T : WeightTexts V) where
   -- the reader may answer this, where `h` is the context line
@@ -94,11 +106,15 @@ module _ {V : Type 0} (T : WeightTexts V) where
       UnlessAny (IsUnfit sets h) (λ reason. reason) (
       ForSuch (SpellsLines sets h) (λ automaton. Gives (record { sets = sets; automaton = automaton })))))
 
+  -- the same, and then `EmptyCircuit` where a circuit of that automaton is refused
+  abbrev pub ReadsSound : Bool → Bytes → List TapeSet → HeadLine → Outcome (Labelled V)
+  ReadsSound is_absorbing file sets h = Then (ReadsLines file sets h) (SoundOnly is_absorbing)
+
 -- `Syntax` at the first line that is not blank where it is no context line, and else what the other lines give
 abbrev pub ReadsText : Bytes → Bytes → Outcome Input
 ReadsText file bytes =
     WithOne (HasContext bytes) (syntax (in_line file (head_number (length (lines_of bytes)) (head_line 1 (lines_of bytes))))) (λ f.
-    Then (ReadsLines (texts_of f.weights) file f.sets f.head) (λ a. Gives (record { weights = f.weights; of = a })))
+    Then (ReadsSound (texts_of f.weights) (absorbs f.weights) file f.sets f.head) (λ a. Gives (record { weights = f.weights; of = a })))
 
 -- the greatest number of bytes of a file
 abbrev pub most_bytes : ℕ

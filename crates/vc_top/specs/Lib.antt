@@ -6,9 +6,10 @@ pub mod Sets
 pub mod Refused
 pub mod Contexts
 pub mod Inputs
+pub mod Automata
+pub mod Operations
 pub mod Evaluations
 pub mod Expressions
-pub mod Automata
 pub mod Standards
 pub mod Plans
 pub mod Answers

@@ -1,16 +1,17 @@
 -- What each request wants: a line for each command.
 use Rattle.std.specs.Prelude.{◌≡◌, List, [], ◌∷◌, Option, Some, Err, ⊤}
-use Rattle.vc_command.specs.Requests.{Asked, context, expr, cat, eval_file, eval_expr, standard}
+use Rattle.vc_command.specs.Requests.{Asked, context, expr, cat, eval_file, eval_expr, standard, proper, trim}
 use Rattle.vc_files.specs.Files.{Bytes}
-use Rattle.vc_top.specs.Automata.{AnswersCat}
 use Rattle.vc_top.specs.Contexts.{AnswersContext}
 use Rattle.vc_top.specs.Evaluations.{AnswersEval}
 use Rattle.vc_top.specs.Expressions.{AnswersExpr}
 use Rattle.vc_top.specs.Inputs.{Input, ReadsFile}
+use Rattle.vc_top.specs.Operations.{AnswersPrint, IsOfClosing}
 use Rattle.vc_top.specs.Outcomes.{Outcome, Then}
 use Rattle.vc_top.specs.Reasons.{Reason, usage}
 use Rattle.vc_top.specs.Seen.{Seen}
 use Rattle.vc_top.specs.Standards.{AnswersEvalText, AnswersStandard, IsOfConstruction}
+use Rattle.vc_top.specs.declared.operation.Operation.TheVariants.{Itself, Proper, Trim}
 
 -- which files are read, and what is answered to them
 pub data Plan : Type 1 where
@@ -22,10 +23,12 @@ pub data Plan : Type 1 where
 abbrev pub plan_of : Option Asked → Plan
 plan_of (Some (context text)) = of_texts (AnswersContext text)
 plan_of (Some (expr over text)) = of_texts (AnswersExpr over text)
-plan_of (Some (cat file)) = of_file file AnswersCat
+plan_of (Some (cat file)) = of_file file (AnswersPrint Itself)
 plan_of (Some (eval_file file word)) = of_file file (AnswersEval word)
 plan_of (Some (eval_expr over text word)) = of_texts (AnswersEvalText over text word)
 plan_of (Some (standard over text most)) = of_texts (AnswersStandard over text most)
+plan_of (Some (proper file)) = of_file file (AnswersPrint Proper)
+plan_of (Some (trim file)) = of_file file (AnswersPrint Trim)
 plan_of other = unbuilt
 
 -- requests whose text is not determined, so that any may be printed that is allowed: there is none among the commands that are built
@@ -36,6 +39,8 @@ IsOpen request = ⊥
 abbrev pub IsLoose : Option Asked → Reason → Type 0
 IsLoose (Some (eval_expr over text word)) reason = IsOfConstruction reason
 IsLoose (Some (standard over text most)) reason = IsOfConstruction reason
+IsLoose (Some (eval_file file word)) reason = IsOfClosing reason
+IsLoose (Some (proper file)) reason = IsOfClosing reason
 IsLoose other reason = ⊥
 
 -- the answers of a plan; a command that is not built is `Usage`

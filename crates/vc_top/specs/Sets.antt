@@ -1,5 +1,5 @@
 -- The weight sets that a text names.
-use Rattle.std.specs.Prelude.{ℤ, Bool, ◌&&◌, true}
+use Rattle.std.specs.Prelude.{ℤ, Bool, ◌&&◌, true, false}
 use Rattle.std.specs.Bool.{beq}
 use Rattle.std.specs.Ordering.{int_eq}
 use Rattle.std.specs.Fmt.{signed_decimal}
@@ -43,6 +43,14 @@ value_of F2 = Bool
 value_of Z = ℤ
 value_of Q = Fraction
 value_of Nmin = NminValue
+
+-- one absorbs each element of the set of the name that is added to it
+abbrev pub absorbs : Weights → Bool
+absorbs B = true
+absorbs F2 = false
+absorbs Z = false
+absorbs Q = false
+absorbs Nmin = true
 
 -- the set of the name, with its texts
 abbrev pub texts_of : (w : Weights) → WeightTexts (value_of w)

@@ -1,10 +1,8 @@
 -- What commands over the standard automaton of an expression answer, in the order of refusals.
-use Rattle.std.specs.Prelude.{◌≡◌, ◌≢◌, ◌⊎◌, ◌<◌, ◌+◌, ℕ, List, [], ◌∷◌, ◌++◌, length, false}
+use Rattle.std.specs.Prelude.{◌≡◌, ◌≢◌, ◌⊎◌, ◌<◌, ◌+◌, ℕ, List, length, false}
 use Rattle.vc_aut.specs.Labelled.{Labelled}
 use Rattle.vc_aut.specs.Order.{AreInOrder}
 use Rattle.vc_context.specs.declared.context.Weights.{Weights}
-use Rattle.vc_eval.specs.Cells.{refusal_of}
-use Rattle.vc_eval.specs.Forward.{forward_steps}
 use Rattle.vc_files.specs.Files.{Bytes}
 use Rattle.vc_label.specs.declared.tape_set.TapeSet.{TapeSet}
 use Rattle.vc_model.specs.Automata.{Transition, IsAutomaton, IsProper, coefficient}
@@ -21,11 +19,10 @@ use Rattle.vc_standard.specs.Structures.{standard_of}
 use Rattle.vc_terms.specs.Terms.{Term, bound_of, coefficient_of}
 use Rattle.vc_top.specs.Automata.{Prints}
 use Rattle.vc_top.specs.Contexts.{IsContext}
-use Rattle.vc_top.specs.Evaluations.{HasUnfitStep, ReadsWord, cells_of}
+use Rattle.vc_top.specs.Evaluations.{AnswersValue, ReadsWord}
 use Rattle.vc_top.specs.Expressions.{ReadsExpression}
 use Rattle.vc_top.specs.Outcomes.{ForSuch, Gives, MayRefuse, Outcome, Then, Unless, WithOne}
 use Rattle.vc_top.specs.Reasons.{Reason, in_context, limit, overflow, syntax}
-use Rattle.vc_top.specs.Refused.{UnlessCause}
 use Rattle.vc_top.specs.Sets.{texts_of}
 use Rattle.vc_top.specs.declared.refusal.Bound.TheVariants.{Of}
 
@@ -38,12 +35,6 @@ abbrev pub IsOfConstruction : Reason → Type 0
 IsOfConstruction overflow = Unit {0}
 IsOfConstruction (limit (Of Transitions)) = Unit {0}
 IsOfConstruction other = ⊥
-
--- a value of an automaton at a word, and a line feed: `Limit` where the forward rows have too many cells, and `Overflow` where a step of them does not fit
-abbrev pub AnswersValue : {V : Type 0} → WeightTexts V → Word → V → Labelled V → Outcome Bytes
-AnswersValue {V} T word value a =
-    UnlessCause {V = V} (refusal_of (cells_of a.sets a.automaton word)) (
-    Unless (HasUnfitStep T.set (forward_steps T.set a.automaton word)) overflow (Gives (T.canonical value ++ 10 ∷ [])))
 
 module _ {V : Type 0} (T : WeightTexts V) (sets : List TapeSet) where
   -- the standard automaton of an expression: it has the series of the expression, and as many states as the bound and one; no transition enters state 0, which alone is initial, with weight one; no label is

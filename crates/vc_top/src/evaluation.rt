@@ -5,12 +5,13 @@ ghost use Rattle.vc_label.specs.Borrowed.{word_of};
 ghost use Rattle.vc_model.specs.Automata.{Automaton as Graph};
 ghost use Rattle.vc_model.specs.Words.{Word as Letters};
 ghost use Rattle.vc_ring.specs.declared.faults.MakeFault.{MakeFault as Cause};
-ghost use Rattle.vc_top.specs.Evaluations.{AnswersEval, AnswersEvalOver, AnswersSteps, AnswersWord, IsCoefficient, ReadsProper, is_one};
+ghost use Rattle.vc_top.specs.Evaluations.{AnswersEval, AnswersEvalOver, AnswersSteps, AnswersWord, IsCoefficient, ReadsWithProper, is_one};
 ghost use Rattle.vc_top.specs.Outcomes.{OrMemory};
 ghost use Rattle.vc_top.specs.Refused.{UnlessCause};
 ghost use Rattle.vc_top.specs.Views.{answer_of, input_of, labelled_of, seen_by};
 
 use crate::input::{AnyInput, AnyOf};
+use crate::operation::closed;
 use crate::refusal::{Refusal, made_not};
 use crate::word::word_over;
 use std::alloc::{AllocError, Global};
@@ -98,23 +99,23 @@ pub(crate) fn value_several<'w, L: LabelSet, S: Semiring>(
     answer_with::<S>(alloc, eval_tuple(alloc, automaton, word))
 }
 
-/// The word of a text over the labels of an automaton, and the automaton, where none of its transitions has an empty label.
-fn proper_over<'w, L: LabelSet, S: Semiring>(
+/// The word of a text over the labels of an automaton, and the automaton without empty labels.
+fn word_and_proper<'w, L: LabelSet, S: Semiring>(
     alloc: Global,
     automaton: Automaton<L, S>,
     text: &str,
 ) -> Result<(WordBuf, Proper<L, S>), Refusal<'w>>
-    ensures read { OrMemory (ReadsProper automaton text.now) (seen_by (λ p. p.0) result) }
-    ensures proper { IfOk result (λ p. p.1 ≡ automaton) }
+    ensures read { OrMemory (ReadsWithProper ⟦<S as Weighed>⟧.texts S.ABSORBS automaton text.now) (seen_by (λ p. p) result) }
+    ensures sets { IfOk result (λ p. p.1.sets ≡ automaton.sets) }
     ensures tapes { IfOk result (λ p. length p.0 ≡ length automaton.sets) }
 {
     let word = match word_over(alloc, automaton.labels(), text) {
         Ok(word) => word,
         Err(refusal) => return Err(refusal),
     };
-    match automaton.into_proper() {
-        Ok(proper) => Ok((word, proper)),
-        Err(_) => Err(Refusal::Contexts),
+    match closed(alloc, &automaton) {
+        Ok(proper) => return Ok((word, proper)),
+        Err(refusal) => return Err(refusal),
     }
 }
 
@@ -125,9 +126,9 @@ fn eval_one<'w, L: LabelSet, S: Semiring>(
     text: &str,
 ) -> Result<String, Refusal<'w>>
     requires { is_one automaton.sets ≡ true }
-    ensures { OrMemory (AnswersEvalOver ⟦<S as Weighed>⟧.texts text.now automaton) (answer_of result) }
+    ensures { OrMemory (AnswersEvalOver ⟦<S as Weighed>⟧.texts S.ABSORBS text.now automaton) (answer_of result) }
 {
-    match proper_over(alloc, automaton, text) {
+    match word_and_proper(alloc, automaton, text) {
         Ok((word, proper)) => value_one(alloc, &proper, word.word()),
         Err(refusal) => Err(refusal),
     }
@@ -140,9 +141,9 @@ fn eval_several<'w, L: LabelSet, S: Semiring>(
     text: &str,
 ) -> Result<String, Refusal<'w>>
     requires { is_one automaton.sets ≡ false }
-    ensures { OrMemory (AnswersEvalOver ⟦<S as Weighed>⟧.texts text.now automaton) (answer_of result) }
+    ensures { OrMemory (AnswersEvalOver ⟦<S as Weighed>⟧.texts S.ABSORBS text.now automaton) (answer_of result) }
 {
-    match proper_over(alloc, automaton, text) {
+    match word_and_proper(alloc, automaton, text) {
         Ok((word, proper)) => value_several(alloc, &proper, word.word()),
         Err(refusal) => Err(refusal),
     }
@@ -154,7 +155,7 @@ fn eval_any<'w, S: Semiring>(
     automaton: AnyOf<S>,
     text: &str,
 ) -> Result<String, Refusal<'w>>
-    ensures { OrMemory (AnswersEvalOver ⟦<S as Weighed>⟧.texts text.now (labelled_of automaton)) (answer_of result) }
+    ensures { OrMemory (AnswersEvalOver ⟦<S as Weighed>⟧.texts S.ABSORBS text.now (labelled_of automaton)) (answer_of result) }
 {
     labels_have_tapes();
     match automaton {

@@ -1,7 +1,7 @@
 ghost use Rattle.std.specs.Prelude.{◌≡◌, ◌∷◌, []};
 ghost use Rattle.vc_context.specs.Sets.{tapes_of};
 ghost use Rattle.vc_files.specs.Files.{Grows};
-ghost use Rattle.vc_top.specs.Inputs.{HasContext, Headed, ReadsBytes, ReadsFile, ReadsLines, ReadsText};
+ghost use Rattle.vc_top.specs.Inputs.{HasContext, Headed, ReadsBytes, ReadsFile, ReadsLines, ReadsSound, ReadsText, SoundOnly};
 ghost use Rattle.vc_top.specs.Outcomes.{OrMemory};
 ghost use Rattle.vc_top.specs.Reasons.{in_line, reason_of, syntax};
 ghost use Rattle.vc_top.specs.Seen.{seen};
@@ -10,8 +10,9 @@ ghost use Rattle.vc_top.specs.Views.{fault_line, fault_reason, input_of, labelle
 use crate::refusal::{Bound, Place, Refusal};
 use std::alloc::Global;
 use vc_atoms::{Letters, Nullable, Words};
-use vc_aut::Automaton;
+use vc_aut::{Automaton, automata_are_valid};
 use vc_basic::{B, F2, Nmin, Z};
+use vc_closure::empty_circuit;
 use vc_context::{AnyLabels, Weights, labels_have_tapes};
 use vc_daut::{
     DautFault, HeadFault, built_automata_are_spelled, daut_context, read_daut,
@@ -85,6 +86,39 @@ fn read_over<'w, L: LabelSet, S: Semiring>(
     }
 }
 
+/// The automaton, where no circuit of it is refused.
+fn sound<'w, L: LabelSet, S: Semiring>(
+    alloc: Global,
+    automaton: Automaton<L, S>,
+) -> Result<Automaton<L, S>, Refusal<'w>>
+    ensures { OrMemory (SoundOnly S.ABSORBS automaton) (seen_by (λ a. a) result) }
+{
+    if S::ABSORBS {
+        return Ok(automaton);
+    }
+    automata_are_valid(&automaton);
+    match empty_circuit(alloc, &automaton) {
+        Ok(None) => return Ok(automaton),
+        Ok(Some(_)) => return Err(Refusal::EmptyCircuit),
+        Err(_) => return Err(Refusal::Memory),
+    }
+}
+
+/// Reads the automaton of a file over these labels, where no circuit of it is refused.
+fn read_sound<'w, L: LabelSet, S: Semiring>(
+    alloc: Global,
+    file: &'w str,
+    bytes: &[u8],
+    labels: L,
+) -> Result<Automaton<L, S>, Refusal<'w>>
+    ensures { (f : Headed) → HasContext bytes.now f → f.sets ≡ L.sets labels → OrMemory (ReadsSound ⟦<S as Weighed>⟧.texts S.ABSORBS file.now f.sets f.head) (seen_by (λ a. a) result) }
+{
+    match read_over(alloc, file, bytes, labels) {
+        Ok(automaton) => sound(alloc, automaton),
+        Err(refusal) => Err(refusal),
+    }
+}
+
 /// Reads the automaton of a file over these weights, and over labels that are those of its context.
 fn read_any<'w, S: Semiring>(
     alloc: Global,
@@ -92,23 +126,23 @@ fn read_any<'w, S: Semiring>(
     bytes: &[u8],
     labels: AnyLabels,
 ) -> Result<AnyOf<S>, Refusal<'w>>
-    ensures { (f : Headed) → HasContext bytes.now f → f.sets ≡ tapes_of labels → OrMemory (ReadsLines ⟦<S as Weighed>⟧.texts file.now f.sets f.head) (seen_by labelled_of result) }
+    ensures { (f : Headed) → HasContext bytes.now f → f.sets ≡ tapes_of labels → OrMemory (ReadsSound ⟦<S as Weighed>⟧.texts S.ABSORBS file.now f.sets f.head) (seen_by labelled_of result) }
 {
     labels_have_tapes();
     match labels {
-        AnyLabels::Letters(labels) => match read_over::<_, S>(alloc, file, bytes, labels) {
+        AnyLabels::Letters(labels) => match read_sound::<_, S>(alloc, file, bytes, labels) {
             Ok(a) => Ok(AnyOf::Letters(a)),
             Err(refusal) => Err(refusal),
         },
-        AnyLabels::Nullable(labels) => match read_over::<_, S>(alloc, file, bytes, labels) {
+        AnyLabels::Nullable(labels) => match read_sound::<_, S>(alloc, file, bytes, labels) {
             Ok(a) => Ok(AnyOf::Nullable(a)),
             Err(refusal) => Err(refusal),
         },
-        AnyLabels::Words(labels) => match read_over::<_, S>(alloc, file, bytes, labels) {
+        AnyLabels::Words(labels) => match read_sound::<_, S>(alloc, file, bytes, labels) {
             Ok(a) => Ok(AnyOf::Words(a)),
             Err(refusal) => Err(refusal),
         },
-        AnyLabels::Tuple(labels) => match read_over::<_, S>(alloc, file, bytes, labels) {
+        AnyLabels::Tuple(labels) => match read_sound::<_, S>(alloc, file, bytes, labels) {
             Ok(a) => Ok(AnyOf::Tuple(a)),
             Err(refusal) => Err(refusal),
         },

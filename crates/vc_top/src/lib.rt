@@ -8,6 +8,7 @@ mod expression;
 mod input;
 mod law;
 mod message;
+mod operation;
 mod plan;
 mod refusal;
 mod standard;

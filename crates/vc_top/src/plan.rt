@@ -2,15 +2,16 @@ ghost use Rattle.std.specs.Prelude.{Some};
 ghost use Rattle.vc_command.specs.Requests.{HasLimit};
 ghost use Rattle.vc_command.specs.Views.{asked};
 ghost use Rattle.vc_top.specs.Commands.{AnswersFile, AnswersTexts, HasLimits, IsPlan, IsWithin};
+ghost use Rattle.vc_top.specs.Inputs.{IsSoundInput};
 ghost use Rattle.vc_top.specs.Outcomes.{OrMemory};
 ghost use Rattle.vc_top.specs.Plans.{plan_of};
 ghost use Rattle.vc_top.specs.Views.{answer_of, input_of};
 
-use crate::automata::cat;
 use crate::context::context;
 use crate::evaluation::eval;
 use crate::expression::expr;
 use crate::input::AnyInput;
+use crate::operation::{Operation, print};
 use crate::refusal::Refusal;
 use crate::standard::{eval_text, standard};
 use std::alloc::Global;
@@ -56,8 +57,8 @@ pub(crate) enum TextCommand<'w> {
 /// A command that reads one file.
 #[derive(Clone, Copy)]
 pub(crate) enum FileCommand<'w> {
-    /// `cat FILE`
-    Cat,
+    /// `cat FILE`, `proper FILE` and `trim FILE`
+    Print(Operation),
     /// `eval FILE WORD`
     Eval { word: &'w str },
 }
@@ -89,7 +90,9 @@ pub(crate) fn plan_of(request: &Request) -> Plan<'_>
             text,
             limit: *limit,
         }),
-        Request::Cat { file } => Plan::File(file, FileCommand::Cat),
+        Request::Cat { file } => Plan::File(file, FileCommand::Print(Operation::Itself)),
+        Request::Proper { file } => Plan::File(file, FileCommand::Print(Operation::Proper)),
+        Request::Trim { file } => Plan::File(file, FileCommand::Print(Operation::Trim)),
         Request::EvalFile { file, word } => Plan::File(file, FileCommand::Eval { word }),
         _ => Plan::Texts(TextCommand::Unbuilt),
     }
@@ -123,10 +126,11 @@ pub(crate) fn on_file<'w>(
     command: FileCommand<'w>,
     input: AnyInput,
 ) -> Result<String, Refusal<'w>>
+    requires { IsSoundInput (input_of input) }
     ensures { OrMemory (AnswersFile command.entry (input_of input)) (answer_of result) }
 {
     match command {
-        FileCommand::Cat => cat(alloc, &input),
+        FileCommand::Print(operation) => print(alloc, operation, &input),
         FileCommand::Eval { word } => eval(alloc, input, word),
     }
 }

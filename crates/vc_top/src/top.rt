@@ -101,9 +101,11 @@ pub fn refuse<E: Sink>(fault: RequestFault, err: &mut E) -> Status
 /// The words are those after the program's name. Files are read from `files`, the answer goes to `out` once it stands
 /// whole, and on a refusal one line goes to `err`. `context C` prints the canonical text of the context, `expr C E` that of
 /// the expression that the identities make of the text, `standard C E` that of its standard automaton, `cat FILE` that of
-/// the file's automaton, and `eval FILE WORD` and `eval C E WORD` the coefficient of the file's automaton or of the
-/// expression at the word (Sakarovitch, Elements of Automata Theory), each with a line feed at its end. A request of a
-/// command that is not built yet is `Usage`.
+/// the file's automaton, `proper FILE` that of the file's automaton without empty labels, `trim FILE` that of the file's
+/// automaton with its useful states alone, and `eval FILE WORD` and `eval C E WORD` the coefficient of the file's automaton
+/// or of the expression at the word (Sakarovitch, Elements of Automata Theory), each with a line feed at its end. A file over
+/// `f2`, `z` or `q` whose automaton has a circuit of empty labels is refused. A request of a command that is not built yet is
+/// `Usage`.
 pub fn run<F: Files, O: Sink, E: Sink>(
     alloc: Global,
     words: &[String],

@@ -65,6 +65,31 @@ pub(super) const FILES: &[(&str, &str)] = &[
     ),
     ("foreign_pair", "context = [ab]? x [x]* -> z\n0 -> 0 c|x\n"),
     ("words", "context = [ab]*, z\n1 -> 10 ab, \\e, ab\n"),
+    (
+        "costs",
+        "context = \"lan_char(a), nmin\"\n$ -> 0\n0 -> 0 <1>\\e\n0 -> 1 <3>\\e\n1 -> 1 <2>a\n1 -> $",
+    ),
+    (
+        "two_paths",
+        "context = \"lan_char(a), z\"\n$ -> 0\n0 -> 1 \\e\n0 -> 2 \\e\n1 -> 3 \\e\n2 -> 3 <2>\\e\n3 -> 3 a\n3 -> $ <5>\n",
+    ),
+    (
+        "steep",
+        "context = \"lan_char(a), z\"\n$ -> 0\n0 -> 1 <170141183460469231731687303715884105727>\\e\n1 -> 2 <2>\\e\n2 -> $\n",
+    ),
+    ("empty_loop", "context = \"lan_char(a), f2\"\n0 -> 0 \\e"),
+    (
+        "empty_pair_loop",
+        "context = [ab]? x [x]* -> q\n0 -> 1 \\e|\\e\n1 -> 0 <1/2>\\e|\\e, a|x\n",
+    ),
+    (
+        "useless",
+        "context = \"lal_char(ab), b\"\n$ -> 0\n0 -> 1 a\n0 -> 2 b\n1 -> $",
+    ),
+    (
+        "useless_between",
+        "context = \"lal_char(ab), z\"\n$ -> 1 <3>\n0 -> 1 a\n1 -> 3 <2>b\n1 -> 4 a\n2 -> 3 a\n3 -> $ <-1>\n",
+    ),
     ("blank_line", "context = \"lal_char(ab), b\"\n\n$ -> 0\n"),
     ("empty", ""),
     ("realistic", REALISTIC),

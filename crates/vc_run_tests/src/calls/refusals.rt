@@ -1,6 +1,6 @@
 //! Words and files that are refused.
 
-use super::rows::{CONTEXTS, Group, RANGE, WORD_LABEL, WORD_SYNTAX};
+use super::rows::{Group, RANGE, WORD_LABEL, WORD_SYNTAX};
 
 pub(super) const REFUSALS: &[Group] = &[
     Group {
@@ -21,7 +21,6 @@ pub(super) const REFUSALS: &[Group] = &[
             (&["eval", "pairs", "%"], 5, "", WORD_SYNTAX),
             (&["eval", "pairs", "a"], 6, "", WORD_LABEL),
             (&["eval", "pairs", "a|y"], 6, "", WORD_LABEL),
-            (&["eval", "words", "a"], 11, "", CONTEXTS),
             (&["eval", "words", "c"], 6, "", WORD_LABEL),
         ],
     },

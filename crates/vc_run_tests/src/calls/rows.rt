@@ -16,6 +16,8 @@ pub(super) const USAGE: &str = "vcsnr: usage: vcsnr COMMAND ARGUMENTS [--limit N
 
 pub(super) const RANGE: &str = "vcsnr: value past the range\n";
 
+pub(super) const CIRCUIT: &str = "vcsnr: circuit of empty labels\n";
+
 pub(super) const CONTEXTS: &str = "vcsnr: contexts do not fit\n";
 
 pub(super) const UNWRITTEN: &str = "vcsnr: cannot write\n";

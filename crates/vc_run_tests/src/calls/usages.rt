@@ -36,8 +36,6 @@ pub(super) const USAGES: &[Group] = &[
         failing: &[],
         rows: &[
             (&["derived", "lal_char(ab), b", "a"], 2, "", USAGE),
-            (&["proper", "not_held"], 2, "", USAGE),
-            (&["trim", "contains_ab"], 2, "", USAGE),
             (
                 &["conjunction", "contains_ab", "not_held", "--limit", "3"],
                 2,
