@@ -19,7 +19,8 @@ pub(crate) fn text_of<'w, L: LabelSet, S: Semiring>(
     automaton: &Automaton<L, S>,
 ) -> Result<String, Refusal<'w>>
     requires { tapes_of context.now.labels ≡ automaton.now.sets }
-    ensures { OrMemory (Prints ⟦<S as Weighed>⟧.texts context.now.weights automaton.now) (answer_of result) }
+    ensures { OrMemory (Prints ⟦<S as Weighed>⟧.texts context.now.weights automaton.now) (answer_of
+        result) }
 {
     automata_have_texts(automaton);
     let mut text = String::new(alloc);

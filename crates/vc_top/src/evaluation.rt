@@ -61,7 +61,8 @@ fn eval_one_tape<L: LabelSet, S: Semiring>(
     requires sets { length automaton.now.sets ≡ 1 }
     requires word { length (word_of word) ≡ 1 }
     ensures in_range { IfOk result (λ v. IsTrue (S.set.in_range v)) }
-    ensures answer { IsCoefficient S.set (cells_refusal automaton.now.automaton) automaton.now.automaton (word_of word.entry) result }
+    ensures answer { IsCoefficient S.set (cells_refusal automaton.now.automaton)
+        automaton.now.automaton (word_of word.entry) result }
 {
     let mut evaluator = match Evaluator::new(alloc, automaton) {
         Ok(evaluator) => evaluator,
@@ -81,7 +82,8 @@ pub(crate) fn value_one<'w, L: LabelSet, S: Semiring>(
 ) -> Result<String, Refusal<'w>>
     requires one { is_one automaton.now.sets ≡ true }
     requires tapes { length (word_of word) ≡ length automaton.now.sets }
-    ensures { OrMemory (AnswersWord ⟦<S as Weighed>⟧.texts automaton.now (word_of word.entry)) (answer_of result) }
+    ensures { OrMemory (AnswersWord ⟦<S as Weighed>⟧.texts automaton.now (word_of word.entry))
+        (answer_of result) }
 {
     answer_with::<S>(alloc, eval_one_tape(alloc, automaton, word))
 }
@@ -94,7 +96,8 @@ pub(crate) fn value_several<'w, L: LabelSet, S: Semiring>(
 ) -> Result<String, Refusal<'w>>
     requires several { is_one automaton.now.sets ≡ false }
     requires tapes { length (word_of word) ≡ length automaton.now.sets }
-    ensures { OrMemory (AnswersWord ⟦<S as Weighed>⟧.texts automaton.now (word_of word.entry)) (answer_of result) }
+    ensures { OrMemory (AnswersWord ⟦<S as Weighed>⟧.texts automaton.now (word_of word.entry))
+        (answer_of result) }
 {
     answer_with::<S>(alloc, eval_tuple(alloc, automaton, word))
 }
@@ -105,7 +108,8 @@ fn word_and_proper<'w, L: LabelSet, S: Semiring>(
     automaton: Automaton<L, S>,
     text: &str,
 ) -> Result<(WordBuf, Proper<L, S>), Refusal<'w>>
-    ensures read { OrMemory (ReadsWithProper ⟦<S as Weighed>⟧.texts S.ABSORBS automaton text.now) (seen_by (λ p. p) result) }
+    ensures read { OrMemory (ReadsWithProper ⟦<S as Weighed>⟧.texts S.ABSORBS automaton text.now)
+        (seen_by (λ p. p) result) }
     ensures sets { IfOk result (λ p. p.1.sets ≡ automaton.sets) }
     ensures tapes { IfOk result (λ p. length p.0 ≡ length automaton.sets) }
 {
@@ -126,7 +130,8 @@ fn eval_one<'w, L: LabelSet, S: Semiring>(
     text: &str,
 ) -> Result<String, Refusal<'w>>
     requires { is_one automaton.sets ≡ true }
-    ensures { OrMemory (AnswersEvalOver ⟦<S as Weighed>⟧.texts S.ABSORBS text.now automaton) (answer_of result) }
+    ensures { OrMemory (AnswersEvalOver ⟦<S as Weighed>⟧.texts S.ABSORBS text.now automaton)
+        (answer_of result) }
 {
     match word_and_proper(alloc, automaton, text) {
         Ok((word, proper)) => value_one(alloc, &proper, word.word()),
@@ -141,7 +146,8 @@ fn eval_several<'w, L: LabelSet, S: Semiring>(
     text: &str,
 ) -> Result<String, Refusal<'w>>
     requires { is_one automaton.sets ≡ false }
-    ensures { OrMemory (AnswersEvalOver ⟦<S as Weighed>⟧.texts S.ABSORBS text.now automaton) (answer_of result) }
+    ensures { OrMemory (AnswersEvalOver ⟦<S as Weighed>⟧.texts S.ABSORBS text.now automaton)
+        (answer_of result) }
 {
     match word_and_proper(alloc, automaton, text) {
         Ok((word, proper)) => value_several(alloc, &proper, word.word()),
@@ -155,7 +161,8 @@ fn eval_any<'w, S: Semiring>(
     automaton: AnyOf<S>,
     text: &str,
 ) -> Result<String, Refusal<'w>>
-    ensures { OrMemory (AnswersEvalOver ⟦<S as Weighed>⟧.texts S.ABSORBS text.now (labelled_of automaton)) (answer_of result) }
+    ensures { OrMemory (AnswersEvalOver ⟦<S as Weighed>⟧.texts S.ABSORBS text.now (labelled_of
+        automaton)) (answer_of result) }
 {
     labels_have_tapes();
     match automaton {

@@ -46,8 +46,10 @@ pub(crate) fn read_over<'w, L: LabelSet, S: Semiring>(
 ) -> Result<Expr, Refusal<'w>>
     requires { are_single (L.sets labels.now) ≡ L.SINGLE }
     ensures has { IfOk result (λ e. Has exprs.new e) }
-    ensures labels { IfOk result (λ e. Everywhere (IsRootOver (L.sets labels.now)) (tree_of exprs.new e)) }
-    ensures read { OrMemory (ReadsExpression ⟦<S as Weighed>⟧.texts (L.sets labels.now) text.now) (seen_by (tree_of exprs.new) result) }
+    ensures labels { IfOk result (λ e. Everywhere (IsRootOver (L.sets labels.now)) (tree_of
+        exprs.new e)) }
+    ensures read { OrMemory (ReadsExpression ⟦<S as Weighed>⟧.texts (L.sets labels.now) text.now)
+        (seen_by (tree_of exprs.new) result) }
 {
     read_expressions_have_their_series::<S::Value>();
     match read_expr(alloc, exprs, labels, text) {
@@ -65,7 +67,8 @@ fn line_of<L: LabelSet, S: Semiring>(
 ) -> Result<String, AllocError>
     requires has { Has exprs.now e }
     requires labels { Everywhere (IsRootOver (L.sets labels.now)) (tree_of exprs.now e) }
-    ensures { IfOk result (λ text. string_bytes text ≡ expression_text S.canonical (tree_of exprs.now e) ++ 10 ∷ []) }
+    ensures { IfOk result (λ text. string_bytes text ≡ expression_text S.canonical (tree_of
+        exprs.now e) ++ 10 ∷ []) }
 {
     let mut text = String::new(alloc);
     write_expr(alloc, exprs, labels, e, &mut text)?;
@@ -80,7 +83,8 @@ fn expr_over<'w, L: LabelSet, S: Semiring>(
     text: &str,
 ) -> Result<String, Refusal<'w>>
     requires { are_single (L.sets labels.now) ≡ L.SINGLE }
-    ensures { OrMemory (AnswersExprOver ⟦<S as Weighed>⟧.texts (L.sets labels.now) text.now) (answer_of result) }
+    ensures { OrMemory (AnswersExprOver ⟦<S as Weighed>⟧.texts (L.sets labels.now) text.now)
+        (answer_of result) }
 {
     let mut exprs = Exprs::<L, S>::new(alloc);
     let e = match read_over(alloc, &mut exprs, labels, text) {
@@ -101,7 +105,8 @@ fn expr_any<'w, S: Semiring>(
     labels: &AnyLabels,
     text: &str,
 ) -> Result<String, Refusal<'w>>
-    ensures { OrMemory (AnswersExprOver ⟦<S as Weighed>⟧.texts (tapes_of labels.now) text.now) (answer_of result) }
+    ensures { OrMemory (AnswersExprOver ⟦<S as Weighed>⟧.texts (tapes_of labels.now) text.now)
+        (answer_of result) }
 {
     labels_have_tapes();
     match labels {

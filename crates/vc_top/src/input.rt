@@ -75,7 +75,8 @@ fn read_over<'w, L: LabelSet, S: Semiring>(
     bytes: &[u8],
     labels: L,
 ) -> Result<Automaton<L, S>, Refusal<'w>>
-    ensures { (f : Headed) → HasContext bytes.now f → f.sets ≡ L.sets labels → OrMemory (ReadsLines ⟦<S as Weighed>⟧.texts file.now f.sets f.head) (seen_by (λ a. a) result) }
+    ensures { (f : Headed) → HasContext bytes.now f → f.sets ≡ L.sets labels → OrMemory (ReadsLines
+        ⟦<S as Weighed>⟧.texts file.now f.sets f.head) (seen_by (λ a. a) result) }
 {
     built_automata_are_spelled::<S::Value>();
     readings_exclude_each_other::<S::Value>();
@@ -111,7 +112,8 @@ fn read_sound<'w, L: LabelSet, S: Semiring>(
     bytes: &[u8],
     labels: L,
 ) -> Result<Automaton<L, S>, Refusal<'w>>
-    ensures { (f : Headed) → HasContext bytes.now f → f.sets ≡ L.sets labels → OrMemory (ReadsSound ⟦<S as Weighed>⟧.texts S.ABSORBS file.now f.sets f.head) (seen_by (λ a. a) result) }
+    ensures { (f : Headed) → HasContext bytes.now f → f.sets ≡ L.sets labels → OrMemory (ReadsSound
+        ⟦<S as Weighed>⟧.texts S.ABSORBS file.now f.sets f.head) (seen_by (λ a. a) result) }
 {
     match read_over(alloc, file, bytes, labels) {
         Ok(automaton) => sound(alloc, automaton),
@@ -126,7 +128,9 @@ fn read_any<'w, S: Semiring>(
     bytes: &[u8],
     labels: AnyLabels,
 ) -> Result<AnyOf<S>, Refusal<'w>>
-    ensures { (f : Headed) → HasContext bytes.now f → f.sets ≡ tapes_of labels → OrMemory (ReadsSound ⟦<S as Weighed>⟧.texts S.ABSORBS file.now f.sets f.head) (seen_by labelled_of result) }
+    ensures { (f : Headed) → HasContext bytes.now f → f.sets ≡ tapes_of labels → OrMemory
+        (ReadsSound ⟦<S as Weighed>⟧.texts S.ABSORBS file.now f.sets f.head) (seen_by labelled_of
+        result) }
 {
     labels_have_tapes();
     match labels {
@@ -185,7 +189,8 @@ fn read_text<'w>(alloc: Global, file: &'w str, bytes: &[u8]) -> Result<AnyInput,
 fn load<'w, F: Files>(files: &mut F, name: &'w str) -> Result<Vec<u8>, Refusal<'w>>
     ensures held { F.held files.new ≡ F.held files.old }
     ensures faults { Grows (name.now ∷ []) (F.faults files.old) (F.faults files.new) }
-    ensures loaded { OrMemory (ReadsBytes (seen (F.held files.old) (F.faults files.old) (F.faults files.new)) name.now) (seen_by (λ v. v.items) result) }
+    ensures loaded { OrMemory (ReadsBytes (seen (F.held files.old) (F.faults files.old) (F.faults
+        files.new)) name.now) (seen_by (λ v. v.items) result) }
 {
     match files.read_all(name, MOST_BYTES) {
         Ok(bytes) => Ok(bytes),
@@ -203,7 +208,8 @@ pub(crate) fn read_input<'w, F: Files>(
 ) -> Result<AnyInput, Refusal<'w>>
     ensures held { F.held files.new ≡ F.held files.old }
     ensures faults { Grows (file.now ∷ []) (F.faults files.old) (F.faults files.new) }
-    ensures read { OrMemory (ReadsFile (seen (F.held files.old) (F.faults files.old) (F.faults files.new)) file.now) (seen_by input_of result) }
+    ensures read { OrMemory (ReadsFile (seen (F.held files.old) (F.faults files.old) (F.faults
+        files.new)) file.now) (seen_by input_of result) }
 {
     let bytes = load(files, file)?;
     read_text(alloc, file, &bytes)

@@ -47,7 +47,8 @@ pub(crate) fn closed<'w, L: LabelSet, S: Semiring>(
     alloc: Global,
     automaton: &Automaton<L, S>,
 ) -> Result<Proper<L, S>, Refusal<'w>>
-    ensures closed { OrMemory (WithProper ⟦<S as Weighed>⟧.texts S.ABSORBS automaton.now Gives) (seen_by (λ p. p) result) }
+    ensures closed { OrMemory (WithProper ⟦<S as Weighed>⟧.texts S.ABSORBS automaton.now Gives)
+        (seen_by (λ p. p) result) }
     ensures sets { IfOk result (λ p. p.sets ≡ automaton.now.sets) }
 {
     automata_are_valid(automaton);
@@ -104,7 +105,8 @@ fn print_in<'w, L: LabelSet, S: Semiring>(
 ) -> Result<String, Refusal<'w>>
     requires labels { tapes_of context.now.labels ≡ automaton.now.sets }
     requires sound { ¬ HasRefusedCircuit S.ABSORBS automaton.now }
-    ensures { OrMemory (PrintsOperation ⟦<S as Weighed>⟧.texts S.ABSORBS operation context.now.weights automaton.now) (answer_of result) }
+    ensures { OrMemory (PrintsOperation ⟦<S as Weighed>⟧.texts S.ABSORBS operation
+        context.now.weights automaton.now) (answer_of result) }
 {
     match operation {
         Operation::Itself => text_of(alloc, context, automaton),
@@ -121,7 +123,8 @@ fn print_over<'w, S: Semiring>(
     automaton: &AnyOf<S>,
 ) -> Result<String, Refusal<'w>>
     requires { ¬ HasRefusedCircuit S.ABSORBS (labelled_of automaton.now) }
-    ensures { OrMemory (PrintsOperation ⟦<S as Weighed>⟧.texts S.ABSORBS operation weights (labelled_of automaton.now)) (answer_of result) }
+    ensures { OrMemory (PrintsOperation ⟦<S as Weighed>⟧.texts S.ABSORBS operation weights
+        (labelled_of automaton.now)) (answer_of result) }
 {
     labels_have_tapes();
     match automaton {

@@ -39,7 +39,8 @@ fn made<'w, L: LabelSet, S: Semiring>(
     requires has { Has exprs.now e }
     requires labels { Everywhere (IsRootOver (L.sets labels)) (tree_of exprs.now e) }
     requires limit { IsLimit limit }
-    ensures made { OrMemory (WithStandard ⟦<S as Weighed>⟧.texts (L.sets labels) limit Gives (tree_of exprs.now e)) (seen_by (λ a. a) result) }
+    ensures made { OrMemory (WithStandard ⟦<S as Weighed>⟧.texts (L.sets labels) limit Gives
+        (tree_of exprs.now e)) (seen_by (λ a. a) result) }
     ensures sets { IfOk result (λ a. a.sets ≡ L.sets labels) }
 {
     match vc_standard::standard(alloc, exprs, labels, e, limit) {
@@ -62,7 +63,8 @@ fn standard_over<'w, L: LabelSet, S: Semiring>(
     requires sets { tapes_of context.now.labels ≡ L.sets labels.now }
     requires single { are_single (L.sets labels.now) ≡ L.SINGLE }
     requires limit { IsLimit limit }
-    ensures { OrMemory (AnswersStandardOver ⟦<S as Weighed>⟧.texts (L.sets labels.now) context.now.weights text.now limit) (answer_of result) }
+    ensures { OrMemory (AnswersStandardOver ⟦<S as Weighed>⟧.texts (L.sets labels.now)
+        context.now.weights text.now limit) (answer_of result) }
 {
     let mut exprs = Exprs::<L, S>::new(alloc);
     let e = match read_over(alloc, &mut exprs, labels, text) {
@@ -83,7 +85,8 @@ fn standard_any<'w, S: Semiring>(
     limit: u64,
 ) -> Result<String, Refusal<'w>>
     requires { IsLimit limit }
-    ensures { OrMemory (AnswersStandardOver ⟦<S as Weighed>⟧.texts (tapes_of context.now.labels) context.now.weights text.now limit) (answer_of result) }
+    ensures { OrMemory (AnswersStandardOver ⟦<S as Weighed>⟧.texts (tapes_of context.now.labels)
+        context.now.weights text.now limit) (answer_of result) }
 {
     labels_have_tapes();
     match &context.labels {
@@ -124,7 +127,8 @@ fn word_and_standard<'w, L: LabelSet, S: Semiring>(
     word: &str,
 ) -> Result<(WordBuf, Proper<L, S>), Refusal<'w>>
     requires { are_single (L.sets labels.now) ≡ L.SINGLE }
-    ensures read { OrMemory (ReadsWithStandard ⟦<S as Weighed>⟧.texts (L.sets labels.now) text.now word.now) (seen_by (λ p. p) result) }
+    ensures read { OrMemory (ReadsWithStandard ⟦<S as Weighed>⟧.texts (L.sets labels.now) text.now
+        word.now) (seen_by (λ p. p) result) }
     ensures sets { IfOk result (λ p. p.1.sets ≡ L.sets labels.now) }
     ensures tapes { IfOk result (λ p. length p.0 ≡ length (L.sets labels.now)) }
 {
@@ -143,7 +147,8 @@ fn word_and_standard<'w, L: LabelSet, S: Semiring>(
     }
 }
 
-/// The coefficient of the expression of the first text at the word of the second, over labels of one tape.
+/// The coefficient of the expression of the first text at the word of the second, over labels of
+/// one tape.
 fn eval_text_one<'w, L: LabelSet, S: Semiring>(
     alloc: Global,
     labels: &L,
@@ -152,7 +157,8 @@ fn eval_text_one<'w, L: LabelSet, S: Semiring>(
 ) -> Result<String, Refusal<'w>>
     requires single { are_single (L.sets labels.now) ≡ L.SINGLE }
     requires one { is_one (L.sets labels.now) ≡ true }
-    ensures { OrMemory (AnswersEvalTextOver ⟦<S as Weighed>⟧.texts (L.sets labels.now) text.now word.now) (answer_of result) }
+    ensures { OrMemory (AnswersEvalTextOver ⟦<S as Weighed>⟧.texts (L.sets labels.now) text.now
+        word.now) (answer_of result) }
 {
     match word_and_standard::<L, S>(alloc, labels, text, word) {
         Ok((word, proper)) => value_one(alloc, &proper, word.word()),
@@ -169,7 +175,8 @@ fn eval_text_several<'w, L: LabelSet, S: Semiring>(
 ) -> Result<String, Refusal<'w>>
     requires single { are_single (L.sets labels.now) ≡ L.SINGLE }
     requires several { is_one (L.sets labels.now) ≡ false }
-    ensures { OrMemory (AnswersEvalTextOver ⟦<S as Weighed>⟧.texts (L.sets labels.now) text.now word.now) (answer_of result) }
+    ensures { OrMemory (AnswersEvalTextOver ⟦<S as Weighed>⟧.texts (L.sets labels.now) text.now
+        word.now) (answer_of result) }
 {
     match word_and_standard::<L, S>(alloc, labels, text, word) {
         Ok((word, proper)) => value_several(alloc, &proper, word.word()),
@@ -184,7 +191,8 @@ fn eval_text_any<'w, S: Semiring>(
     text: &str,
     word: &str,
 ) -> Result<String, Refusal<'w>>
-    ensures { OrMemory (AnswersEvalTextOver ⟦<S as Weighed>⟧.texts (tapes_of labels.now) text.now word.now) (answer_of result) }
+    ensures { OrMemory (AnswersEvalTextOver ⟦<S as Weighed>⟧.texts (tapes_of labels.now) text.now
+        word.now) (answer_of result) }
 {
     labels_have_tapes();
     match labels {

@@ -34,7 +34,8 @@ fn with_file<'w, F: Files>(
 ) -> Result<String, Refusal<'w>>
     ensures held { F.held files.new ≡ F.held files.old }
     ensures faults { Grows (file.now ∷ []) (F.faults files.old) (F.faults files.new) }
-    ensures answer { OrMemory (Then (ReadsFile (seen (F.held files.old) (F.faults files.old) (F.faults files.new)) file.now) (AnswersFile command.entry)) (answer_of result) }
+    ensures answer { OrMemory (Then (ReadsFile (seen (F.held files.old) (F.faults files.old)
+        (F.faults files.new)) file.now) (AnswersFile command.entry)) (answer_of result) }
 {
     match read_input(alloc, files, file) {
         Ok(input) => on_file(alloc, command, input),
@@ -50,8 +51,10 @@ fn answer<'w, F: Files>(
 ) -> Result<String, Refusal<'w>>
     requires { HasLimit (asked request.now) }
     ensures held { F.held files.new ≡ F.held files.old }
-    ensures faults { Grows (names_of (Some (asked request.now))) (F.faults files.old) (F.faults files.new) }
-    ensures answer { Allows (Some (asked request.now)) (seen (F.held files.old) (F.faults files.old) (F.faults files.new)) (answer_of result) }
+    ensures faults { Grows (names_of (Some (asked request.now))) (F.faults files.old) (F.faults
+        files.new) }
+    ensures answer { Allows (Some (asked request.now)) (seen (F.held files.old) (F.faults files.old)
+        (F.faults files.new)) (answer_of result) }
 {
     match plan_of(request) {
         Plan::Texts(command) => on_texts(alloc, command),
@@ -61,7 +64,8 @@ fn answer<'w, F: Files>(
 
 /// Prints an answer, or nothing for a refusal, which is handed on.
 fn deliver<'w, O: Sink>(answer: Result<String, Refusal<'w>>, out: &mut O) -> Result<(), Refusal<'w>>
-    ensures { Delivers (answer_of answer.entry) (left_of result) (O.written out.old) (O.written out.new) (O.faults out.old) (O.faults out.new) }
+    ensures { Delivers (answer_of answer.entry) (left_of result) (O.written out.old) (O.written
+        out.new) (O.faults out.old) (O.faults out.new) }
 {
     match answer {
         Ok(text) => match out.write_all(text.as_bytes()) {
@@ -72,9 +76,11 @@ fn deliver<'w, O: Sink>(answer: Result<String, Refusal<'w>>, out: &mut O) -> Res
     }
 }
 
-/// The status of what was done; the line of a refusal goes to the sink, whose fault changes no status.
+/// The status of what was done; the line of a refusal goes to the sink, whose fault changes no
+/// status.
 fn report<E: Sink>(done: Result<(), Refusal<'_>>, err: &mut E) -> Status
-    ensures { Reports (left_of done.entry) result (E.written err.old) (E.written err.new) (E.faults err.old) (E.faults err.new) }
+    ensures { Reports (left_of done.entry) result (E.written err.old) (E.written err.new) (E.faults
+        err.old) (E.faults err.new) }
 {
     match done {
         Ok(()) => Status::Done,
@@ -85,10 +91,11 @@ fn report<E: Sink>(done: Result<(), Refusal<'_>>, err: &mut E) -> Status
     }
 }
 
-/// The status of words that give no request, whose line goes to the sink: `Usage`, or `Memory` where there was none for
-/// them.
+/// The status of words that give no request, whose line goes to the sink: `Usage`, or `Memory`
+/// where there was none for them.
 pub fn refuse<E: Sink>(fault: RequestFault, err: &mut E) -> Status
-    ensures { Reports (Some (reason_of_words fault)) result (E.written err.old) (E.written err.new) (E.faults err.old) (E.faults err.new) }
+    ensures { Reports (Some (reason_of_words fault)) result (E.written err.old) (E.written err.new)
+        (E.faults err.old) (E.faults err.new) }
 {
     match fault {
         RequestFault::Usage => report(Err(Refusal::Usage), err),
@@ -98,14 +105,15 @@ pub fn refuse<E: Sink>(fault: RequestFault, err: &mut E) -> Status
 
 /// Does what the words ask, and answers the status.
 ///
-/// The words are those after the program's name. Files are read from `files`, the answer goes to `out` once it stands
-/// whole, and on a refusal one line goes to `err`. `context C` prints the canonical text of the context, `expr C E` that of
-/// the expression that the identities make of the text, `standard C E` that of its standard automaton, `cat FILE` that of
-/// the file's automaton, `proper FILE` that of the file's automaton without empty labels, `trim FILE` that of the file's
-/// automaton with its useful states alone, and `eval FILE WORD` and `eval C E WORD` the coefficient of the file's automaton
-/// or of the expression at the word (Sakarovitch, Elements of Automata Theory), each with a line feed at its end. A file over
-/// `f2`, `z` or `q` whose automaton has a circuit of empty labels is refused. A request of a command that is not built yet is
-/// `Usage`.
+/// The words are those after the program's name. Files are read from `files`, the answer goes to
+/// `out` once it stands whole, and on a refusal one line goes to `err`. `context C` prints the
+/// canonical text of the context, `expr C E` that of the expression that the identities make of the
+/// text, `standard C E` that of its standard automaton, `cat FILE` that of the file's automaton,
+/// `proper FILE` that of the file's automaton without empty labels, `trim FILE` that of the file's
+/// automaton with its useful states alone, and `eval FILE WORD` and `eval C E WORD` the coefficient
+/// of the file's automaton or of the expression at the word (Sakarovitch, Elements of Automata
+/// Theory), each with a line feed at its end. A file over `f2`, `z` or `q` whose automaton has a
+/// circuit of empty labels is refused. A request of a command that is not built yet is `Usage`.
 pub fn run<F: Files, O: Sink, E: Sink>(
     alloc: Global,
     words: &[String],
@@ -114,11 +122,14 @@ pub fn run<F: Files, O: Sink, E: Sink>(
     err: &mut E,
 ) -> Status
     // What is printed and what is told, the cause of each refusal, and the status.
-    ensures rows { IsRun (request_of (map string_bytes words.now)) (seen (F.held files.old) (F.faults files.old) (F.faults files.new)) result
-        (flow (O.written out.old) (O.written out.new) (O.faults out.old) (O.faults out.new)) (flow (E.written err.old) (E.written err.new) (E.faults err.old) (E.faults err.new)) }
+    ensures rows { IsRun (request_of (map string_bytes words.now)) (seen (F.held files.old)
+        (F.faults files.old) (F.faults files.new)) result (flow (O.written out.old) (O.written
+        out.new) (O.faults out.old) (O.faults out.new)) (flow (E.written err.old) (E.written err.new)
+        (E.faults err.old) (E.faults err.new)) }
 
     // The files keep what they hold, and only a file of the request joins their faults.
-    ensures faults { Grows (names_of (request_of (map string_bytes words.now))) (F.faults files.old) (F.faults files.new) }
+    ensures faults { Grows (names_of (request_of (map string_bytes words.now))) (F.faults files.old)
+        (F.faults files.new) }
     ensures kept { F.held files.new ≡ F.held files.old }
 {
     limits_are_in_range();
