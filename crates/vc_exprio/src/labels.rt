@@ -1,5 +1,5 @@
 //! The labels of a text, over a label set.
-ghost use Rattle.std.specs.Prelude.{◌≡◌, ◌<◌, ◌∷◌, [], List, IfOk, IfSome, MatchBool, MatchOption, OnOk, drop, map, length};
+ghost use Rattle.std.specs.Prelude.{◌≡◌, ◌<◌, ◌∷◌, [], List, IfOk, IfSome, MatchBool, MatchOption, OnOk, drop, false, map, length};
 ghost use Rattle.vc_exprio.specs.LabelAnswers.{IsLabelMade, IsToldOver, IsClassFound, IsOutsideAt, IsStepOutside};
 ghost use Rattle.vc_exprio.specs.Making.{more_parts, occurrences_in};
 ghost use Rattle.vc_exprio.specs.Meaning as meaning;
@@ -9,6 +9,7 @@ ghost use Rattle.vc_exprio.specs.Views.{step_seen};
 ghost use Rattle.vc_exprio.specs.WordParts.{tapes_of};
 ghost use Rattle.vc_label.specs.Borrowed.{word_of};
 ghost use Rattle.vc_label.specs.Sets.{IsOverSets};
+ghost use Rattle.vc_lex.specs.Marks.{Mark};
 ghost use Rattle.vc_lex.specs.Parts.{tape_of};
 ghost use Rattle.vc_lex.specs.Views.{seen};
 ghost use Rattle.vc_lex.specs.declared.token.TokenKind.TheVariants.{One};
@@ -142,8 +143,22 @@ fn is_one_alone(first: Token<'_>, parts: usize) -> bool
     }
 }
 
+/// Whether a label with these parts, each by the text of its letters, is one of the context. The first part is given.
+fn is_over<L: LabelSet>(labels: &L, first: Token<'_>, parts: &[&[u8]]) -> bool
+    ensures { (further : List Mark) → tapes_of parts.now ≡ map tape_of (seen first.entry ∷ further) → IsToldOver (L.sets labels.now) (meaning.parts (seen first.entry) further) result }
+{
+    words_are_over_sets();
+    if is_one_alone(first, parts.len()) {
+        return true;
+    }
+    if are_empty(parts) {
+        return parts.len() == labels.tapes();
+    }
+    are_over(labels, parts)
+}
+
 /// Whether a label is one of the context: its first part, and the further ones, with which the steps after it begin.
-/// `parts` is room for them, and no label is made.
+/// `parts` is room for them.
 fn is_label<'t, L: LabelSet>(
     labels: &L,
     first: Token<'t>,
@@ -152,19 +167,28 @@ fn is_label<'t, L: LabelSet>(
 ) -> Result<bool, AllocError>
     ensures { IfOk result (λ is. IsToldOver (L.sets labels.now) (meaning.parts (seen first.entry) (more_parts (map step_seen after.now))) is) }
 {
-    words_are_over_sets();
     collect_parts(first, after, parts)?;
-    if is_one_alone(first, parts.len()) {
-        return Ok(true);
-    }
-    if are_empty(parts) {
-        return Ok(parts.len() == labels.tapes());
-    }
-    Ok(are_over(labels, parts))
+    Ok(is_over(labels, first, parts))
 }
 
-/// The label of the set that a label of the context is; none where it is empty. The first part is given, and the
-/// further ones are those with which the steps after it begin. `parts` is room for them.
+/// The label of the set with these parts; none where no part has a letter.
+fn label_if_any<L: LabelSet>(
+    alloc: Global,
+    labels: &L,
+    parts: &[&[u8]],
+) -> Result<Option<L::Label>, AllocError>
+    requires { is_empty (tapes_of parts.now) ≡ false → IsOverSets (L.sets labels.now) (tapes_of parts.now) }
+    ensures { IfOk result (λ label. IsLabelMade L.parts (tapes_of parts.now) label) }
+{
+    if are_empty(parts) {
+        return Ok(None);
+    }
+    let label = label_with(alloc, labels, parts)?;
+    Ok(Some(label))
+}
+
+/// The label of the set that a label of the context is; none where it is empty. Its first part is given, and with the
+/// further ones the steps after it begin. `parts` is room for them.
 pub(crate) fn make_label<'t, L: LabelSet>(
     alloc: Global,
     labels: &L,
@@ -176,11 +200,7 @@ pub(crate) fn make_label<'t, L: LabelSet>(
     ensures { IfOk result (λ label. IsLabelMade L.parts (map tape_of (seen first.entry ∷ more_parts (map step_seen after.now))) label) }
 {
     collect_parts(first, after, parts)?;
-    if are_empty(parts) {
-        return Ok(None);
-    }
-    let label = label_with(alloc, labels, parts)?;
-    Ok(Some(label))
+    label_if_any(alloc, labels, parts)
 }
 
 /// The letters of a class, where it is a label of the set.
