@@ -101,8 +101,8 @@ fn letter_alone(parts: &[&[u8]]) -> Option<u8>
     one_letter(part_on(parts, 0))
 }
 
-/// The label of the set with these parts, each by the text of its letters. One letter alone takes no memory but what
-/// the label takes.
+/// The label of the set with these parts, each by the text of its letters. Where they are one
+/// letter, no word is built for it.
 fn label_with<L: LabelSet>(
     alloc: Global,
     labels: &L,
@@ -143,9 +143,11 @@ fn is_one_alone(first: Token<'_>, parts: usize) -> bool
     }
 }
 
-/// Whether a label with these parts, each by the text of its letters, is one of the context. The first part is given.
+/// Whether a label with these parts, each by the text of its letters, is one of the context. The
+/// token of the first part is given.
 fn is_over<L: LabelSet>(labels: &L, first: Token<'_>, parts: &[&[u8]]) -> bool
-    ensures { (further : List Mark) → tapes_of parts.now ≡ map tape_of (seen first.entry ∷ further) → IsToldOver (L.sets labels.now) (meaning.parts (seen first.entry) further) result }
+    ensures { (further : List Mark) → tapes_of parts.now ≡ map tape_of (seen first.entry ∷ further)
+        → IsToldOver (L.sets labels.now) (meaning.parts (seen first.entry) further) result }
 {
     words_are_over_sets();
     if is_one_alone(first, parts.len()) {
@@ -157,15 +159,16 @@ fn is_over<L: LabelSet>(labels: &L, first: Token<'_>, parts: &[&[u8]]) -> bool
     are_over(labels, parts)
 }
 
-/// Whether a label is one of the context: its first part, and the further ones, with which the steps after it begin.
-/// `parts` is room for them.
+/// Whether a label is one of the context: its first part, and the further ones, with which the
+/// steps after it begin. `parts` is room for them.
 fn is_label<'t, L: LabelSet>(
     labels: &L,
     first: Token<'t>,
     after: &[Step<'t>],
     parts: &mut Vec<&'t [u8]>,
 ) -> Result<bool, AllocError>
-    ensures { IfOk result (λ is. IsToldOver (L.sets labels.now) (meaning.parts (seen first.entry) (more_parts (map step_seen after.now))) is) }
+    ensures { IfOk result (λ is. IsToldOver (L.sets labels.now)
+        (meaning.parts (seen first.entry) (more_parts (map step_seen after.now))) is) }
 {
     collect_parts(first, after, parts)?;
     Ok(is_over(labels, first, parts))
@@ -177,7 +180,8 @@ fn label_if_any<L: LabelSet>(
     labels: &L,
     parts: &[&[u8]],
 ) -> Result<Option<L::Label>, AllocError>
-    requires { is_empty (tapes_of parts.now) ≡ false → IsOverSets (L.sets labels.now) (tapes_of parts.now) }
+    requires { is_empty (tapes_of parts.now) ≡ false
+        → IsOverSets (L.sets labels.now) (tapes_of parts.now) }
     ensures { IfOk result (λ label. IsLabelMade L.parts (tapes_of parts.now) label) }
 {
     if are_empty(parts) {
@@ -187,8 +191,8 @@ fn label_if_any<L: LabelSet>(
     Ok(Some(label))
 }
 
-/// The label of the set that a label of the context is; none where it is empty. Its first part is given, and with the
-/// further ones the steps after it begin. `parts` is room for them.
+/// The label of the set that a label of the context is; none where it is empty. Its first part is
+/// given, and with the further ones the steps after it begin. `parts` is room for them.
 pub(crate) fn make_label<'t, L: LabelSet>(
     alloc: Global,
     labels: &L,
@@ -196,8 +200,10 @@ pub(crate) fn make_label<'t, L: LabelSet>(
     after: &[Step<'t>],
     parts: &mut Vec<&'t [u8]>,
 ) -> Result<Option<L::Label>, AllocError>
-    requires { IsOccurrenceOver (L.sets labels.now) (meaning.parts (seen first) (more_parts (map step_seen after.now))) }
-    ensures { IfOk result (λ label. IsLabelMade L.parts (map tape_of (seen first.entry ∷ more_parts (map step_seen after.now))) label) }
+    requires { IsOccurrenceOver (L.sets labels.now)
+        (meaning.parts (seen first) (more_parts (map step_seen after.now))) }
+    ensures { IfOk result (λ label. IsLabelMade L.parts
+        (map tape_of (seen first.entry ∷ more_parts (map step_seen after.now))) label) }
 {
     collect_parts(first, after, parts)?;
     label_if_any(alloc, labels, parts)

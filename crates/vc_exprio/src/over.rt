@@ -10,7 +10,8 @@ use vc_label::{Alphabet, LabelSet, TapeKind, TapeSet, words_are_over_sets};
 
 /// The letter of a text that has one letter.
 pub(crate) fn one_letter(text: &[u8]) -> Option<u8>
-    ensures { MatchOption result (length (unescaped text.now) ≡ 1 → ⊥) (λ x. unescaped text.now ≡ x ∷ []) }
+    ensures { MatchOption result (length (unescaped text.now) ≡ 1 → ⊥)
+        (λ x. unescaped text.now ≡ x ∷ []) }
 {
     let (letter, after) = next_byte(text)?;
     match next_byte(after) {
