@@ -12,7 +12,7 @@ use Rattle.vc_exprio.specs.Trees.{Tree, Barred, zero_tree, label, group, star, w
 use Rattle.vc_exprio.specs.Grammar.{is_atom, is_postfixed, is_prefixed, is_product, is_conjunction, is_shuffle, is_sum, AreBarred, InGrammar}
 use Rattle.vc_text.specs.Escapes.{inside}
 use Rattle.vc_lex.specs.Parts.{tape_of}
-use Rattle.vc_exprio.specs.Meaning.{label_word, label_term, append, is_times, is_plus, summands, term_of}
+use Rattle.vc_exprio.specs.Meaning.{label_term, is_times, is_plus, summands, term_of}
 use Rattle.vc_exprio.specs.Meaning as meaning
 use Rattle.vc_expr.specs.Facts.{HasRootValues}
 use Rattle.vc_terms.specs.Forms.{IsMember, AreMembers, IsFactor, AreFactors, AreMany, IsBuilt, IsBuiltRoot, Everywhere, EverywhereIn}

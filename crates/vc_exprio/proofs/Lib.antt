@@ -19,7 +19,8 @@ pub mod ParserStates
 pub mod StepDepths
 pub mod FirstPlaces
 pub mod StepLists
-pub mod LabelsFound
+pub mod ToldLabels
+pub mod OverTapes
 pub mod BuildableSteps
 pub mod RootsOver
 pub mod StackNames

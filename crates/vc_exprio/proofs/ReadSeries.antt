@@ -1,5 +1,5 @@
 -- What is read of a text has the series of what the text spells.
-use Rattle.std.proofs.Common.{◌≡◌, ℕ, Bool, true, false, List, length, Ok, refl, sym, ◌∙◌, ap, subst, inl, inr}
+use Rattle.std.proofs.Common.{◌≡◌, ℕ, Bool, true, false, List, length, Ok, refl, sym, subst, inl, inr}
 use Rattle.vc_label.specs.declared.tape_set.TapeSet.{TapeSet}
 use Rattle.vc_model.specs.Series.{SameOn}
 use Rattle.vc_ring.specs.Texts.{WeightTexts}
@@ -10,7 +10,7 @@ use Rattle.vc_exprio.specs.Occurring.{letters_over}
 use Rattle.vc_exprio.specs.Series.{HasSeriesOf}
 use Rattle.vc_exprio.specs.Spelling.{weight_of_mark, is_weight_of}
 use Rattle.vc_exprio.specs.TextAnswers.{IsRead, IsInContext}
-use Rattle.vc_exprio.specs.Trees.{Tree, tokens_of}
+use Rattle.vc_exprio.specs.Trees.{Tree}
 use Rattle.vc_exprio.proofs.BuiltTrees.{building_built}
 use Rattle.vc_exprio.proofs.ReadTapes.{raw_on_tapes}
 

@@ -8,9 +8,9 @@ use Rattle.vc_lex.specs.Marks.{Mark}
 use Rattle.vc_lex.specs.Parts.{tape_of}
 use Rattle.vc_lex.specs.declared.token.TokenKind.TheVariants as kinds
 use Rattle.vc_model.specs.Words.{Word, is_empty}
-use Rattle.vc_terms.specs.Terms.{Term, Terms, NoTerms, MoreTerms, Zero, One, Atom, Sum, Product, IsOnTapes, AreOnTapes}
+use Rattle.vc_terms.specs.Terms.{Term, Terms, NoTerms, MoreTerms, One, Atom, IsOnTapes, AreOnTapes}
 use Rattle.vc_exprio.specs.Grammar.{InGrammar}
-use Rattle.vc_exprio.specs.Meaning.{is_plus, is_times, label_word, label_term, class_term, letter_terms, summands, factors, append, occurrences, parts, letters, term_of}
+use Rattle.vc_exprio.specs.Meaning.{is_plus, is_times, label_word, label_term, class_term, letter_terms, summands, factors, append, occurrences, parts, term_of}
 use Rattle.vc_exprio.specs.Occurring.{AreOccurrencesOver, IsOccurrenceOver, letters_over}
 use Rattle.vc_exprio.specs.Places.{first_place, is_operator, is_operator_kind}
 use Rattle.vc_exprio.specs.Trees.{Tree, Barred, zero_tree, label, class, group, star, weight_behind, weight_before, times, both, shuffle, plus, tokens_of}

@@ -1,7 +1,6 @@
 -- What is built of a text has its labels over the sets.
 use Rattle.std.proofs.Common.{◌≡◌, ℕ, Bool, true, false, List, [], ◌∷◌, ◌++◌, map, refl, ap, sym, ◌∙◌, subst, inl, inr, arith}
 use Rattle.std.proofs.lemmas.List.Elements.{All-cons, All-nil}
-use Rattle.std.specs.List.{flat_map}
 use Rattle.std.specs.Prelude.{filter, if◌then◌else◌, ◌↔◌, ◌⊎◌}
 use Rattle.vc_label.specs.Alphabets.{has_letter, letters_of}
 use Rattle.vc_label.specs.Sets.{IsOverSets, HasKind}
@@ -19,7 +18,7 @@ use Rattle.vc_model.specs.Words.{Word, is_empty}
 use Rattle.vc_terms.specs.Forms.{Everywhere, EverywhereIn}
 use Rattle.vc_terms.specs.Identities.{built_of}
 use Rattle.vc_terms.specs.KeptTrees.{built_labels}
-use Rattle.vc_terms.specs.Terms.{Term, Terms, NoTerms, MoreTerms, terms_of, list_of, Zero, One, Atom, Sum, Product, Star, Weight, Both, Shuffle}
+use Rattle.vc_terms.specs.Terms.{Term, Terms, NoTerms, MoreTerms, Zero, One, Atom, Sum, Product, Star, Weight, Both, Shuffle}
 use Rattle.vc_text.specs.Classes.{has_in_class}
 use Rattle.vc_text.specs.Escapes.{inside}
 use Rattle.vc_exprio.specs.Canonical.{IsRootOver}

@@ -1,32 +1,26 @@
 -- What is found of the labels of a text.
-use Rattle.std.specs.Prelude.{◌≡◌, ℕ, true, List, ◌∷◌, map, Option, Some, None}
+use Rattle.std.specs.Prelude.{◌≡◌, ℕ, Bool, true, false, List, ◌∷◌, Option, Some, None}
 use Rattle.vc_label.specs.Alphabets.{letters_of}
-use Rattle.vc_label.specs.Sets.{IsOverSets}
 use Rattle.vc_label.specs.declared.alphabet.Alphabet.{Alphabet}
 use Rattle.vc_label.specs.declared.tape_set.TapeSet.{TapeSet}
 use Rattle.vc_lex.specs.Labels.{IsClassOver}
 use Rattle.vc_lex.specs.Marks.{Mark}
-use Rattle.vc_lex.specs.Parts.{tape_of}
 use Rattle.vc_model.specs.Words.{Word, is_empty}
 use Rattle.vc_text.specs.Escapes.{inside}
-use Rattle.vc_exprio.specs.Meaning.{Occurrence, parts}
+use Rattle.vc_exprio.specs.Meaning.{Occurrence}
 use Rattle.vc_exprio.specs.Making.{occurrences_in}
-use Rattle.vc_exprio.specs.Occurring.{IsEmptyOver, IsOccurrenceOver, AreOccurrencesOver, IsFirstOutside, letters_over}
+use Rattle.vc_exprio.specs.Occurring.{IsOccurrenceOver, AreOccurrencesOver, IsFirstOutside, letters_over}
 use Rattle.vc_exprio.specs.Steps.{Op}
-use Rattle.vc_exprio.specs.declared.labels.Found.{Found}
-use Rattle.vc_exprio.specs.declared.labels.Found.TheVariants.{Label, One, Outside}
 
--- a label of the sets with these parts; One for an empty label of the context; or no label of the context
-abbrev pub IsLabelFound : {B : Type 0} → (B → Word) → List TapeSet → Mark → List Mark → Found B → Type 0
-IsLabelFound word_of sets m ms (Label l) = (word_of l ≡ map tape_of (m ∷ ms)) × IsOverSets sets (map tape_of (m ∷ ms))
-IsLabelFound word_of sets m ms One = (is_empty (map tape_of (m ∷ ms)) ≡ true) × IsOccurrenceOver sets (parts m ms)
-IsLabelFound word_of sets m ms Outside = IsOccurrenceOver sets (parts m ms) → ⊥
+-- whether it is a label of the context
+abbrev pub IsToldOver : List TapeSet → Occurrence → Bool → Type 0
+IsToldOver sets o true = IsOccurrenceOver sets o
+IsToldOver sets o false = IsOccurrenceOver sets o → ⊥
 
--- a label of the sets with these parts; One for an empty word with as many parts as there are tapes; or neither
-abbrev pub IsWordFound : {B : Type 0} → (B → Word) → List TapeSet → Word → Found B → Type 0
-IsWordFound word_of sets w (Label l) = (word_of l ≡ w) × IsOverSets sets w
-IsWordFound word_of sets w One = IsEmptyOver sets w
-IsWordFound word_of sets w Outside = (IsOverSets sets w → ⊥) × (IsEmptyOver sets w → ⊥)
+-- a label with this word; none for one without letters
+abbrev pub IsLabelMade : {B : Type 0} → (B → Word) → Word → Option B → Type 0
+IsLabelMade word_of w None = is_empty w ≡ true
+IsLabelMade word_of w (Some l) = word_of l ≡ w
 
 -- the letters of a class, where it is a label of the context
 abbrev pub IsClassFound : List TapeSet → Mark → Option Alphabet → Type 0

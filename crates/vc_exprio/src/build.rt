@@ -1,5 +1,5 @@
 //! An expression is built by the steps of its tree.
-ghost use Rattle.std.specs.Prelude.{◌≡◌, ◌≤◌, ◌∷◌, ◌++◌, [], List, Ok, Result, All, IsTrue, OnOk, length, map};
+ghost use Rattle.std.specs.Prelude.{◌≡◌, ◌≤◌, ◌∷◌, ◌++◌, [], Ok, Result, All, IsTrue, OnOk, length, map};
 ghost use Rattle.std.specs.Option.{is_some};
 ghost use Rattle.vc_expr.specs.Answers.{IsMade, sum_answer};
 ghost use Rattle.vc_expr.specs.Names.{Has, trees_of, Grows};
@@ -19,12 +19,12 @@ ghost use Rattle.vc_terms.specs.Terms.{Term};
 ghost use Rattle.vc_text.specs.Escapes.{inside};
 
 use crate::fault::TextFault;
-use crate::labels::{Found, find_class, find_label, step_at};
+use crate::labels::{find_class, label_of, make_label, step_at};
 use crate::step::Step;
 use std::alloc::{AllocError, Global};
 use std::slice;
 use vc_expr::{Expr, ExprFault, Exprs, names_keep_their_trees};
-use vc_label::{LabelFault, LabelSet, Word, alphabets_are_sets, words_are_over_sets};
+use vc_label::{LabelSet, Word, alphabets_are_sets, words_are_over_sets};
 use vc_lex::Token;
 use vc_ring::Semiring;
 use vc_text::inside;
@@ -83,10 +83,9 @@ fn build_label<'t, L: LabelSet, S: Semiring>(
     ensures answer { IsMade exprs.new (Ok (atom_of (map tape_of (seen first.entry ∷ more_parts (map step_seen after.now))))) result }
     ensures grows { Grows exprs.old exprs.new }
 {
-    match find_label(alloc, labels, first, after, parts)? {
-        Found::Label(label) => return exprs.atom(label),
-        Found::One => return exprs.one(),
-        Found::Outside => unreachable!(),
+    match make_label(alloc, labels, first, after, parts)? {
+        Some(label) => return exprs.atom(label),
+        None => return exprs.one(),
     }
 }
 
@@ -102,11 +101,8 @@ fn build_letter<L: LabelSet, S: Semiring>(
     ensures grows { Grows exprs.old exprs.new }
 {
     words_are_over_sets();
-    match labels.label(alloc, Word::one(slice::from_ref(&letter))) {
-        Ok(label) => return exprs.atom(label),
-        Err(LabelFault::NotHere) => unreachable!(),
-        Err(LabelFault::Memory(error)) => return Err(ExprFault::Memory(error)),
-    }
+    let label = label_of(alloc, labels, Word::one(slice::from_ref(&letter)))?;
+    exprs.atom(label)
 }
 
 /// The sum of the letters of a class.

@@ -1,6 +1,6 @@
 //! The depth of an expression, from the steps that make it.
-ghost use Rattle.std.specs.Prelude.{◌≡◌, ◌+◌, ◌<◌, ◌^◌, ◌++◌, ◌∷◌, [], map, length, IfOk, OnOk};
-ghost use Rattle.vc_exprio.specs.Depths.{greatest, deepened, depths_after, depths_by};
+ghost use Rattle.std.specs.Prelude.{◌≡◌, ◌+◌, ◌<◌, ◌^◌, map, IfOk, OnOk};
+ghost use Rattle.vc_exprio.specs.Depths.{greatest, deepened, depths_after};
 ghost use Rattle.vc_exprio.specs.Meaning.{depth};
 ghost use Rattle.vc_exprio.specs.Steps.{steps_of};
 ghost use Rattle.vc_exprio.specs.Trees.{Tree};

@@ -1,35 +1,29 @@
 //! The labels of a text, over a label set.
-ghost use Rattle.std.specs.Prelude.{◌≡◌, ◌<◌, ◌∷◌, [], List, IfOk, MatchBool, MatchOption, OnOk, drop, map, length};
-ghost use Rattle.std.specs.Option.{option_map};
-ghost use Rattle.vc_exprio.specs.LabelAnswers.{IsLabelFound, IsWordFound, IsClassFound, IsOutsideAt, IsStepOutside};
+ghost use Rattle.std.specs.Prelude.{◌≡◌, ◌<◌, ◌∷◌, [], List, IfOk, IfSome, MatchBool, MatchOption, OnOk, drop, false, map, length};
+ghost use Rattle.vc_exprio.specs.LabelAnswers.{IsLabelMade, IsToldOver, IsClassFound, IsOutsideAt, IsStepOutside};
 ghost use Rattle.vc_exprio.specs.Making.{more_parts, occurrences_in};
+ghost use Rattle.vc_exprio.specs.Meaning as meaning;
+ghost use Rattle.vc_exprio.specs.Occurring.{IsOccurrenceOver};
 ghost use Rattle.vc_exprio.specs.Steps.{Op, more_op};
 ghost use Rattle.vc_exprio.specs.Views.{step_seen};
 ghost use Rattle.vc_exprio.specs.WordParts.{tapes_of};
-ghost use Rattle.vc_lex.specs.Labels.{IsLabelAnswer};
+ghost use Rattle.vc_label.specs.Borrowed.{word_of};
+ghost use Rattle.vc_label.specs.Sets.{IsOverSets};
+ghost use Rattle.vc_lex.specs.Marks.{Mark};
 ghost use Rattle.vc_lex.specs.Parts.{tape_of};
 ghost use Rattle.vc_lex.specs.Views.{seen};
 ghost use Rattle.vc_lex.specs.declared.token.TokenKind.TheVariants.{One};
 ghost use Rattle.vc_model.specs.Words.{is_empty};
 ghost use Rattle.vc_text.specs.Escapes.{unescaped};
 
+use crate::over::{are_over, one_letter};
 use crate::step::Step;
-use crate::words::word_with;
+use crate::words::{part_on, word_with};
 use std::alloc::{AllocError, Global};
-use vc_label::{Alphabet, LabelFault, LabelSet, words_are_over_sets};
+use std::slice;
+use vc_label::{Alphabet, LabelFault, LabelSet, Word, words_are_over_sets};
 use vc_lex::{Token, TokenKind};
 use vc_text::{class_letters, inside};
-
-/// What the parts of a label give over a label set.
-#[derive(Drop)]
-pub(crate) enum Found<T> {
-    /// A label of the set.
-    Label(T),
-    /// The empty label, which stands for One.
-    One,
-    /// No label of the context.
-    Outside,
-}
 
 /// A step, and the steps after it.
 pub(crate) fn step_at<'s, 't>(steps: &'s [Step<'t>], at: usize) -> (Step<'t>, &'s [Step<'t>])
@@ -81,23 +75,50 @@ fn collect_parts<'t>(
     Ok(())
 }
 
-/// The label of the set with these parts, each by the text of its letters.
+/// The label of the set that a word is.
+pub(crate) fn label_of<L: LabelSet>(
+    alloc: Global,
+    labels: &L,
+    word: Word<'_>,
+) -> Result<L::Label, AllocError>
+    requires { IsOverSets (L.sets labels.now) (word_of word) }
+    ensures { IfOk result (λ label. L.parts label ≡ word_of word.entry) }
+{
+    match labels.label(alloc, word) {
+        Ok(label) => return Ok(label),
+        Err(LabelFault::NotHere) => unreachable!(),
+        Err(LabelFault::Memory(error)) => return Err(error),
+    }
+}
+
+/// The letter of a label that is one letter on one tape.
+fn letter_alone(parts: &[&[u8]]) -> Option<u8>
+    ensures { IfSome result (λ x. tapes_of parts.now ≡ (x ∷ []) ∷ []) }
+{
+    if parts.len() != 1 {
+        return None;
+    }
+    one_letter(part_on(parts, 0))
+}
+
+/// The label of the set with these parts, each by the text of its letters. Where they are one
+/// letter, no word is built for it.
 fn label_with<L: LabelSet>(
     alloc: Global,
     labels: &L,
     parts: &[&[u8]],
-) -> Result<Option<L::Label>, AllocError>
-    requires { length parts.now ≡ length (L.sets labels.now) }
-    ensures { IfOk result (λ label. IsLabelAnswer (L.sets labels.now) (tapes_of parts.now) (option_map L.parts label)) }
+) -> Result<L::Label, AllocError>
+    requires { IsOverSets (L.sets labels.now) (tapes_of parts.now) }
+    ensures { IfOk result (λ label. L.parts label ≡ tapes_of parts.now) }
 {
-    let Some(word) = word_with(alloc, labels, parts)? else {
-        return Ok(None);
-    };
-    match labels.label(alloc, word.word()) {
-        Ok(label) => return Ok(Some(label)),
-        Err(LabelFault::NotHere) => return Ok(None),
-        Err(LabelFault::Memory(error)) => return Err(error),
+    words_are_over_sets();
+    if let Some(letter) = letter_alone(parts) {
+        return label_of(alloc, labels, Word::one(slice::from_ref(&letter)));
     }
+    let Some(word) = word_with(alloc, labels, parts)? else {
+        unreachable!()
+    };
+    label_of(alloc, labels, word.word())
 }
 
 /// Whether no part has a letter.
@@ -112,27 +133,6 @@ fn are_empty(parts: &[&[u8]]) -> bool
     true
 }
 
-/// What a word with these parts is over a label set.
-fn find_word<L: LabelSet>(
-    alloc: Global,
-    labels: &L,
-    parts: &[&[u8]],
-) -> Result<Found<L::Label>, AllocError>
-    ensures { IfOk result (λ found. IsWordFound L.parts (L.sets labels.now) (tapes_of parts.now) found) }
-{
-    words_are_over_sets();
-    if parts.len() != labels.tapes() {
-        return Ok(Found::Outside);
-    }
-    if are_empty(parts) {
-        return Ok(Found::One);
-    }
-    match label_with(alloc, labels, parts)? {
-        Some(label) => return Ok(Found::Label(label)),
-        None => return Ok(Found::Outside),
-    }
-}
-
 /// Whether a label with so many parts, of which this is the first, is `\e` alone.
 fn is_one_alone(first: Token<'_>, parts: usize) -> bool
     ensures { MatchBool result ((first.entry.kind ≡ One) × (parts ≡ 1)) (first.entry.kind ≡ One → parts ≡ 1 → ⊥) }
@@ -143,23 +143,70 @@ fn is_one_alone(first: Token<'_>, parts: usize) -> bool
     }
 }
 
-/// What a label is over a label set: its first part, and the further ones, with which the steps
-/// after it begin. `parts` is room for them.
-#[tactic(auto, using(crate::proofs::LabelsFound::one_found))]
-pub(crate) fn find_label<'t, L: LabelSet>(
+/// Whether a label with these parts, each by the text of its letters, is one of the context. The
+/// token of the first part is given.
+fn is_over<L: LabelSet>(labels: &L, first: Token<'_>, parts: &[&[u8]]) -> bool
+    ensures { (further : List Mark) → tapes_of parts.now ≡ map tape_of (seen first.entry ∷ further)
+        → IsToldOver (L.sets labels.now) (meaning.parts (seen first.entry) further) result }
+{
+    words_are_over_sets();
+    if is_one_alone(first, parts.len()) {
+        return true;
+    }
+    if are_empty(parts) {
+        return parts.len() == labels.tapes();
+    }
+    are_over(labels, parts)
+}
+
+/// Whether a label is one of the context: its first part, and the further ones, with which the
+/// steps after it begin. `parts` is room for them.
+fn is_label<'t, L: LabelSet>(
+    labels: &L,
+    first: Token<'t>,
+    after: &[Step<'t>],
+    parts: &mut Vec<&'t [u8]>,
+) -> Result<bool, AllocError>
+    ensures { IfOk result (λ is. IsToldOver (L.sets labels.now)
+        (meaning.parts (seen first.entry) (more_parts (map step_seen after.now))) is) }
+{
+    collect_parts(first, after, parts)?;
+    Ok(is_over(labels, first, parts))
+}
+
+/// The label of the set with these parts; none where no part has a letter.
+fn label_if_any<L: LabelSet>(
+    alloc: Global,
+    labels: &L,
+    parts: &[&[u8]],
+) -> Result<Option<L::Label>, AllocError>
+    requires { is_empty (tapes_of parts.now) ≡ false
+        → IsOverSets (L.sets labels.now) (tapes_of parts.now) }
+    ensures { IfOk result (λ label. IsLabelMade L.parts (tapes_of parts.now) label) }
+{
+    if are_empty(parts) {
+        return Ok(None);
+    }
+    let label = label_with(alloc, labels, parts)?;
+    Ok(Some(label))
+}
+
+/// The label of the set that a label of the context is; none where it is empty. Its first part is
+/// given, and with the further ones the steps after it begin. `parts` is room for them.
+pub(crate) fn make_label<'t, L: LabelSet>(
     alloc: Global,
     labels: &L,
     first: Token<'t>,
     after: &[Step<'t>],
     parts: &mut Vec<&'t [u8]>,
-) -> Result<Found<L::Label>, AllocError>
-    ensures { IfOk result (λ found. IsLabelFound L.parts (L.sets labels.now) (seen first.entry) (more_parts (map step_seen after.now)) found) }
+) -> Result<Option<L::Label>, AllocError>
+    requires { IsOccurrenceOver (L.sets labels.now)
+        (meaning.parts (seen first) (more_parts (map step_seen after.now))) }
+    ensures { IfOk result (λ label. IsLabelMade L.parts
+        (map tape_of (seen first.entry ∷ more_parts (map step_seen after.now))) label) }
 {
     collect_parts(first, after, parts)?;
-    if is_one_alone(first, parts.len()) {
-        return Ok(Found::One);
-    }
-    find_word(alloc, labels, parts)
+    label_if_any(alloc, labels, parts)
 }
 
 /// The letters of a class, where it is a label of the set.
@@ -174,7 +221,6 @@ pub(crate) fn find_class<L: LabelSet>(labels: &L, class: Token<'_>) -> Option<Al
 
 /// The place of the label or class that a step is, where it is no label of the context.
 fn outside_at<'t, L: LabelSet>(
-    alloc: Global,
     labels: &L,
     step: Step<'t>,
     after: &[Step<'t>],
@@ -183,11 +229,12 @@ fn outside_at<'t, L: LabelSet>(
     ensures { IfOk result (λ place. IsStepOutside (L.sets labels.now) (step_seen step.entry) (map step_seen after.now) place) }
 {
     match step {
-        Step::Part(first) => match find_label(alloc, labels, first, after, parts)? {
-            Found::Label(_) => return Ok(None),
-            Found::One => return Ok(None),
-            Found::Outside => return Ok(Some(first.at)),
-        },
+        Step::Part(first) => {
+            if is_label(labels, first, after, parts)? {
+                return Ok(None);
+            }
+            return Ok(Some(first.at));
+        }
         Step::Class(class) => match find_class(labels, class) {
             Some(_) => return Ok(None),
             None => return Ok(Some(class.at)),
@@ -207,7 +254,7 @@ pub(crate) fn first_outside<L: LabelSet>(
     let mut parts = Vec::new(alloc);
     for at in 0..steps.len() {
         let (step, after) = step_at(steps, at);
-        if let Some(place) = outside_at(alloc, labels, step, after, &mut parts)? {
+        if let Some(place) = outside_at(labels, step, after, &mut parts)? {
             return Ok(Some(place));
         }
     }

@@ -9,6 +9,7 @@ mod form;
 mod label_text;
 mod labels;
 mod laws;
+mod over;
 mod parser;
 mod parts;
 mod places;

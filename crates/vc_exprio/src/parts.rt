@@ -1,8 +1,8 @@
 //! The parts of the text of a word.
-ghost use Rattle.std.specs.Prelude.{◌≡◌, ◌<◌, ◌≤◌, ◌∷◌, [], List, ℕ, length, map, MatchOption, IfSome, IfOk, IsTrue};
+ghost use Rattle.std.specs.Prelude.{◌≡◌, ◌<◌, ◌≤◌, ◌∷◌, [], List, ℕ, length, MatchOption, IfSome, IfOk, IsTrue};
 ghost use Rattle.std.specs.Option.{option_map};
 ghost use Rattle.vc_exprio.specs.WordAnswers.{AreParts};
-ghost use Rattle.vc_exprio.specs.WordParts.{front_letters, after_letters, part_in, part_at, found};
+ghost use Rattle.vc_exprio.specs.WordParts.{front_letters, after_letters, part_in, found};
 ghost use Rattle.vc_label.specs.Letters.{is_letter};
 
 use std::alloc::{AllocError, Global};

@@ -1,5 +1,5 @@
 //! The places of the first tokens of some kinds.
-ghost use Rattle.std.specs.Prelude.{◌≡◌, map, true, false};
+ghost use Rattle.std.specs.Prelude.{◌≡◌, map};
 ghost use Rattle.vc_exprio.specs.Places.{first_place, is_operator, is_operator_kind, is_weight_kind, is_unfit};
 ghost use Rattle.vc_lex.specs.Views.{seen};
 

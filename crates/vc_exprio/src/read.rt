@@ -1,5 +1,5 @@
 //! What the text of an expression is, before its labels are looked at.
-ghost use Rattle.std.specs.Prelude.{◌≡◌, IfOk};
+ghost use Rattle.std.specs.Prelude.{IfOk};
 ghost use Rattle.vc_exprio.specs.Readings.{IsReading};
 ghost use Rattle.vc_exprio.specs.Spelling.{is_weight_of};
 

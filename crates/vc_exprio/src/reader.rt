@@ -1,5 +1,5 @@
 //! Expressions from their texts.
-ghost use Rattle.std.specs.Prelude.{◌≡◌, ◌≤◌, ℕ, List, IfOk, length, map};
+ghost use Rattle.std.specs.Prelude.{◌≤◌, ℕ, List, IfOk, length, map};
 ghost use Rattle.vc_expr.specs.Names.{Grows, tree_of};
 ghost use Rattle.vc_exprio.specs.Canonical.{IsRootOver};
 ghost use Rattle.vc_exprio.specs.Readings.{HasSteps};

@@ -1,6 +1,6 @@
 //! Words from their texts, and back.
-ghost use Rattle.std.specs.Prelude.{◌≡◌, ◌<◌, ◌≤◌, ◌++◌, ◌∷◌, [], List, ℕ, length, map, MatchBool, MatchOption, IfOk, IfSome, OnOk, OnErr, IsTrue, slice_index_or, string_bytes};
-ghost use Rattle.vc_exprio.specs.Words.{letters_text, part_text, word_text, IsOverAlphabets};
+ghost use Rattle.std.specs.Prelude.{◌≡◌, ◌<◌, ◌++◌, ◌∷◌, [], length, MatchOption, IfOk, IfSome, OnOk, OnErr, IsTrue, slice_index_or, string_bytes};
+ghost use Rattle.vc_exprio.specs.Words.{part_text, word_text};
 ghost use Rattle.vc_exprio.specs.WordAnswers.{IsWordOf, IsPushed, IsWritten};
 ghost use Rattle.vc_exprio.specs.WordParts.{tapes_of};
 ghost use Rattle.vc_label.specs.Borrowed.{word_of};
@@ -27,7 +27,7 @@ pub enum WordFault {
 }
 
 /// The first byte of a text, without a backslash before it, and the text after it.
-fn next_byte(text: &[u8]) -> Option<(u8, &[u8])>
+pub(crate) fn next_byte(text: &[u8]) -> Option<(u8, &[u8])>
     ensures bytes { MatchOption result (unescaped text.now ≡ []) (λ r. unescaped text.now ≡ r.0 ∷ unescaped r.1.now) }
     ensures shorter { IfSome result (λ r. length r.1.now < length text.now) }
 {
@@ -62,7 +62,7 @@ fn push_bytes(
 
 /// The text of the letters of a tape.
 #[tactic(auto, using(crate::proofs::GrownWords::part_on))]
-fn part_on<'t>(parts: &[&'t [u8]], tape: usize) -> &'t [u8]
+pub(crate) fn part_on<'t>(parts: &[&'t [u8]], tape: usize) -> &'t [u8]
     requires { tape < length parts.now }
     ensures { unescaped result.now ≡ slice_index_or (tapes_of parts.now) tape [] }
 {

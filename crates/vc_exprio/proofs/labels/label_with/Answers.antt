@@ -1,10 +1,12 @@
-use Rattle.std.proofs.Common.{rules}
-use Rattle.vc_exprio.specs.Words.{IsOverAlphabets}
+use Rattle.std.proofs.Common.{None, subst}
+use Rattle.vc_exprio.specs.WordAnswers.{IsWritten}
 use Rattle.vc_exprio.specs.WordParts.{tapes_of}
-use Rattle.vc_exprio.proofs.LabelsFound.{over_alphabets}
+use Rattle.vc_exprio.proofs.ToldLabels.{over_alphabets}
 use Rattle.vc_exprio.proofs.labels.label_with.Goals as goal
 
-pub returns-in_default : goal.returns-in_default
-returns-in_default g c h =
-    let none : IsOverAlphabets (g.L.LabelSet.sets c.args.labels.now) (tapes_of c.args.parts.now) → ⊥ = search rules in
-    none (over_alphabets (g.L.LabelSet.sets c.args.labels.now) (tapes_of c.args.parts.now) h)
+pub unreachable-requires : goal.unreachable-requires
+unreachable-requires g c =
+    let sets = g.L.LabelSet.sets c.args.labels.now in
+    let w = tapes_of c.args.parts.now in
+    let none : IsWritten sets w None = subst (IsWritten sets w) c.in_default-2.is c.in_ok-word.ensures in
+    none (over_alphabets sets w c.requires)
