@@ -55,10 +55,12 @@ pub(crate) fn settled_rows<L: LabelSet, S: Semiring>(
     let mut rows = Vec::new(alloc);
     let mut count = 0;
     for state in 0..aut.states() {
-        let row = match settled_row::<S>(alloc, state, &moves, &mut sums, &mut waiting) {
-            Ok(Some(row)) => row,
-            Ok(None) => return Ok(None),
+        let found = match settled_row::<S>(alloc, state, &moves, &mut sums, &mut waiting) {
+            Ok(found) => found,
             Err(error) => return Err(SumFault::Memory(error)),
+        };
+        let Some(row) = found else {
+            return Ok(None);
         };
         let Some(more) = counted(count, row.len(), most) else {
             return Err(too_many_pairs::<S>());

@@ -1,4 +1,4 @@
-use Rattle.std.proofs.Common.{rules, ◌≡◌, ◌<◌, ◌+◌, ◌-◌, [], ◌∷◌, ◌++◌, IsNone, ◌∙◌, ℕ, List, length, refl, sym, ap, ap₂, subst, arith}
+use Rattle.std.proofs.Common.{rules, ◌≡◌, ◌<◌, ◌+◌, ◌-◌, [], ◌∷◌, ◌++◌, IsNone, ◌∙◌, ℕ, List, length, refl, sym, ap, ap₂, subst, arith, Option, IfSome}
 use Rattle.std.specs.Global.{Vec}
 use Rattle.vc_closure.specs.Closing.{closure}
 use Rattle.vc_closure.specs.Formula.{IsMatrixStep}
@@ -48,17 +48,21 @@ returns-in_default-counted-clause-fault g c =
     let G = c.automata_are_valid.ensures.automaton in
     let n = length c.args.aut.now.sets in
     let vs = c.loop-state.rows.items in
-    let v = c.in-Ok-Some.row in
+    let v = c.in-Some.row in
     let ws = vs ++ v ∷ [] in
     let pushed : ws ≡ vs ++ v ∷ [] = refl in
     let s = c.loop-state.state in
     let k : s < A.states = subst (λ m. s < m) c.states-state-end.ensures c.loop-state-test.true in
     let many : length c.deref.result.now ≡ A.states = ap (λ (ms : List (Vec (Entry g.row.S.Denot g.row.S-Value.Denot))). length ms) c.deref.ensures.value ∙ c.in-Ok.ensures.moves.count in
+    let found : IsSettled R c.deref.result.now s (row_at R v.items) =
+    subst (λ (o : Option (Vec (Entry g.row.S.Denot g.row.S-Value.Denot))). IfSome o (λ row. IsSettled R c.deref.result.now s (row_at R row.items))) c.in-Some.is c.in-Ok-settled_row.ensures.settled in
     let settled : IsSettled R c.in-Ok.moves.items s (row_at R v.items) =
-    subst (λ (ms : List (Vec (Entry g.row.S.Denot g.row.S-Value.Denot))). IsSettled R ms s (row_at R v.items)) c.deref.ensures.value c.in-Ok-Some.ensures.settled in
+    subst (λ (ms : List (Vec (Entry g.row.S.Denot g.row.S-Value.Denot))). IsSettled R ms s (row_at R v.items)) c.deref.ensures.value found in
     let entries : (t : ℕ) → t < A.states → row_at R v.items t ≡ closure R A s t = λ t l.
     row_is L (g.met.S.Semiring.absorbs.0 c.requires) n A G c.in-Ok.moves.items c.in-Ok.ensures.moves.count c.in-Ok.ensures.empty s (row_at R v.items) settled t k l in
-    let is_row : IsRow R A.states v.items = subst (λ m. IsRow R m v.items) many c.in-Ok-Some.ensures.row in
+    let row : IsRow R (length c.deref.result.now) v.items =
+    subst (λ (o : Option (Vec (Entry g.row.S.Denot g.row.S-Value.Denot))). IfSome o (λ row. IsRow R (length c.deref.result.now) row.items)) c.in-Some.is c.in-Ok-settled_row.ensures.row in
+    let is_row : IsRow R A.states v.items = subst (λ m. IsRow R m v.items) many row in
     let each : (p : ℕ) → p < s + 1 → IsRow R A.states (entries_at ws p) =
     push_is (λ p (row : List (Entry g.row.S.Denot g.row.S-Value.Denot)). IsRow R A.states row) vs ws v s pushed c.loop-state.invariant.count c.loop-state.invariant.each is_row in
     let all : (p : ℕ) → p < s + 1 → (t : ℕ) → t < A.states → row_at R (entries_at ws p) t ≡ closure R A p t =
@@ -80,28 +84,34 @@ loop-state-preserved g c =
     let G = c.automata_are_valid.ensures.automaton in
     let n = length c.args.aut.now.sets in
     let vs = c.loop-state.rows.items in
-    let v = c.in-Ok-Some.row in
+    let v = c.in-Some.row in
     let ws = c.append.new.list.items in
     let pushed : ws ≡ vs ++ v ∷ [] = c.in-Ok-append.ensures in
     let s = c.loop-state.state in
     let k : s < A.states = subst (λ m. s < m) c.states-state-end.ensures c.loop-state-test.true in
     let many : length c.deref.result.now ≡ A.states = ap (λ (ms : List (Vec (Entry g.row.S.Denot g.row.S-Value.Denot))). length ms) c.deref.ensures.value ∙ c.in-Ok.ensures.moves.count in
+    let found : IsSettled R c.deref.result.now s (row_at R v.items) =
+    subst (λ (o : Option (Vec (Entry g.row.S.Denot g.row.S-Value.Denot))). IfSome o (λ row. IsSettled R c.deref.result.now s (row_at R row.items))) c.in-Some.is c.in-Ok-settled_row.ensures.settled in
     let settled : IsSettled R c.in-Ok.moves.items s (row_at R v.items) =
-    subst (λ (ms : List (Vec (Entry g.row.S.Denot g.row.S-Value.Denot))). IsSettled R ms s (row_at R v.items)) c.deref.ensures.value c.in-Ok-Some.ensures.settled in
+    subst (λ (ms : List (Vec (Entry g.row.S.Denot g.row.S-Value.Denot))). IsSettled R ms s (row_at R v.items)) c.deref.ensures.value found in
     let entries : (t : ℕ) → t < A.states → row_at R v.items t ≡ closure R A s t = λ t l.
     row_is L (g.met.S.Semiring.absorbs.0 c.requires) n A G c.in-Ok.moves.items c.in-Ok.ensures.moves.count c.in-Ok.ensures.empty s (row_at R v.items) settled t k l in
-    let is_row : IsRow R A.states v.items = subst (λ m. IsRow R m v.items) many c.in-Ok-Some.ensures.row in
+    let row : IsRow R (length c.deref.result.now) v.items =
+    subst (λ (o : Option (Vec (Entry g.row.S.Denot g.row.S-Value.Denot))). IfSome o (λ row. IsRow R (length c.deref.result.now) row.items)) c.in-Some.is c.in-Ok-settled_row.ensures.row in
+    let is_row : IsRow R A.states v.items = subst (λ m. IsRow R m v.items) many row in
     let total : count_of ws (below (s + 1)) ≡ count_of vs (below s) + length v.items = count_push vs ws v s pushed c.loop-state.invariant.count in
     let size : c.len.result ≡ length v.items = search rules in
+    let clear : AreClear R (length c.deref.result.now) c.settled_row.new.sums.sums.items c.settled_row.new.sums.touched.items =
+    subst (λ (o : Option (Vec (Entry g.row.S.Denot g.row.S-Value.Denot))). IfSome o (λ row. AreClear R (length c.deref.result.now) c.settled_row.new.sums.sums.items c.settled_row.new.sums.touched.items)) c.in-Some.is c.in-Ok-settled_row.ensures.sums in
     record {
       count = push_count vs ws v s pushed c.loop-state.invariant.count;
       each = push_is (λ p (row : List (Entry g.row.S.Denot g.row.S-Value.Denot)). IsRow R A.states row) vs ws v s pushed c.loop-state.invariant.count c.loop-state.invariant.each is_row;
       entries = push_is (λ p (row : List (Entry g.row.S.Denot g.row.S-Value.Denot)). (t : ℕ) → t < A.states → row_at R row t ≡ closure R A p t) vs ws v s pushed c.loop-state.invariant.count c.loop-state.invariant.entries entries;
-      clear = subst (λ m. AreClear R m c.settled_row.new.sums.sums.items c.settled_row.new.sums.touched.items) many c.in-Ok-Some.ensures.sums;
-      waiting = subst (λ m. AreWaiting m c.settled_row.new.waiting.queue.items c.settled_row.new.waiting.marks.items) many c.in-Ok-Some.ensures.waiting;
-      few = c.in-Some.ensures.some.1;
+      clear = subst (λ m. AreClear R m c.settled_row.new.sums.sums.items c.settled_row.new.sums.touched.items) many clear;
+      waiting = subst (λ m. AreWaiting m c.settled_row.new.waiting.queue.items c.settled_row.new.waiting.marks.items) many c.in-Ok-settled_row.ensures.waiting;
+      few = c.in-Some-counted.ensures.some.1;
       most = c.loop-state.invariant.most;
-      counted = c.in-Some.ensures.some.0 ∙ ap₂ (λ a b. a + b) c.loop-state.invariant.counted size ∙ sym total;
+      counted = c.in-Some-counted.ensures.some.0 ∙ ap₂ (λ a b. a + b) c.loop-state.invariant.counted size ∙ sym total;
     }
 
 pub returns-clause-rows : goal.returns-clause-rows
