@@ -1,13 +1,13 @@
 -- Weights that spread along moves, and why a settled row is a row of the closure.
-use Rattle.std.proofs.Common.{◌≡◌, ◌≢◌, ℕ, ◌<◌, ◌≤◌, ◌-◌, List, [], ◌∷◌, ◌++◌, Bool, true, false, cond, eqb, get_or, IsTrue, length, not, set, refl, sym, ap, ap₂, ◌∙◌, inl, inr, ◌⊎◌, subst, zero, suc, arith}
+use Rattle.std.proofs.Common.{◌≡◌, ℕ, ◌<◌, ◌≤◌, ◌-◌, List, [], ◌∷◌, ◌++◌, Bool, true, false, cond, eqb, get_or, IsTrue, length, not, set, refl, sym, ap, ap₂, ◌∙◌, inl, inr, ◌⊎◌, subst, zero, suc, arith}
 use Rattle.std.specs.Prelude.{◌↔◌}
 use Rattle.std.specs.Global.{Vec}
 use Rattle.std.proofs.lemmas.Bool.{eqb-true, eq-eqb, false≢true}
 use Rattle.std.proofs.lemmas.List.{get_or_default, length-set}
-use Rattle.vc_closure.specs.Closing.{closure, matrix, silent_weight, unit_entry}
-use Rattle.vc_closure.specs.Rows.{AreSums, entries_at, row_at, sum_at}
+use Rattle.vc_closure.specs.Closing.{closure, matrix, unit_entry}
+use Rattle.vc_closure.specs.Rows.{AreSums, entries_at, sum_at}
 use Rattle.vc_closure.specs.Searches.{moves_from}
-use Rattle.vc_closure.specs.Settled.{AddsNothing, AreAmong, AreFrom, AreMovesOf, AreWaiting, IsSettled, TakesIn, move_of, moves_of}
+use Rattle.vc_closure.specs.Settled.{AddsNothing, AreFrom, AreMovesOf, AreWaiting, IsSettled, TakesIn, move_of}
 use Rattle.vc_closure.specs.declared.rows.Entry.{Entry}
 use Rattle.vc_closure.proofs.Closings.{silent}
 use Rattle.vc_closure.proofs.LastMatrix.{last_closed}
@@ -16,9 +16,9 @@ use Rattle.vc_closure.proofs.RowSums.{all_read}
 use Rattle.vc_closure.proofs.Walks.{moves_member}
 use Rattle.vc_model.specs.Absorption.{twice}
 use Rattle.vc_model.specs.Automata.{Automaton, IsAutomaton, Transition}
-use Rattle.vc_model.specs.Lists.{In, below}
+use Rattle.vc_model.specs.Lists.{In}
 use Rattle.vc_model.specs.Members.{In-append_cases, In-filter, In-filter_from, In-map, In-map_from}
-use Rattle.vc_model.specs.Order.{below_more, below_part, below_plus, below_times}
+use Rattle.vc_model.specs.Order.{below_more, below_part, below_times}
 use Rattle.vc_model.specs.Rearranged.{one_times, plus_times, zero_plus, zero_times}
 use Rattle.vc_model.specs.SumLaws.{sum-times}
 use Rattle.vc_model.specs.Sums.{sum_over}

@@ -1,7 +1,5 @@
-use Rattle.std.proofs.Common.{◌≡◌, ◌+◌, ◌∷◌, [], ◌++◌, ◌∙◌, List, map, take, true, false, refl, sym, ap, subst}
+use Rattle.std.proofs.Common.{◌≡◌, ◌+◌, ◌∷◌, [], ◌++◌, ◌∙◌, map, take, true, false, sym, ap}
 use Rattle.vc_aut.specs.Stored.{transition_of}
-use Rattle.vc_closure.specs.Settled.{moves_of}
-use Rattle.vc_closure.specs.declared.rows.Entry.{Entry}
 use Rattle.vc_closure.proofs.EmptyMoves.{moves_same, moves_then}
 use Rattle.vc_closure.proofs.Places.{read_more}
 use Rattle.vc_model.specs.Words.{is_empty}
@@ -19,9 +17,9 @@ loop-transition-preserved g c =
       | then-is_empty+in_ok-append w ↦ (
           let e : is_empty (g.L.LabelSet.parts t.label) ≡ true = sym c.is_empty.ensures ∙ w.if-is_empty.true in
           ap (λ v. v.items) w.row-is ∙ w.in_ok-append.ensures ∙ moves_then (take i ms) (take (i + 1) ms) (of t) c.loop-transition.row.items more c.loop-transition.invariant e
-        )
+          )
       | else-is_empty w ↦ (
           let e : is_empty (g.L.LabelSet.parts t.label) ≡ false = sym c.is_empty.ensures ∙ w.if-is_empty.false in
           ap (λ v. v.items) w.row-is ∙ moves_same (take i ms) (take (i + 1) ms) (of t) c.loop-transition.row.items more c.loop-transition.invariant e
-        )
+          )
     ]

@@ -1,5 +1,4 @@
-use Rattle.std.proofs.Common.{rules, ◌≡◌, ◌<◌, ◌+◌, ◌∷◌, [], ◌++◌, ◌∙◌, ℕ, List, sym, ap, subst}
-use Rattle.vc_closure.specs.Rows.{entries_at}
+use Rattle.std.proofs.Common.{rules, ◌≡◌, ◌∷◌, [], ◌++◌, ◌∙◌, List, ap}
 use Rattle.vc_closure.specs.Searches.{moves_from}
 use Rattle.vc_closure.specs.Settled.{AreAmong, moves_of}
 use Rattle.vc_closure.specs.declared.rows.Entry.{Entry}

@@ -1,4 +1,4 @@
-use Rattle.std.proofs.Common.{◌≡◌, ◌<◌, ◌∙◌, ℕ, List, length, sym, ap, subst}
+use Rattle.std.proofs.Common.{◌≡◌, ℕ, List, length, sym, subst}
 use Rattle.vc_closure.specs.Rows.{AreClear, AreSums, IsRow, entries_at, row_at, sum_at}
 use Rattle.vc_closure.specs.Settled.{AddsNothing}
 use Rattle.vc_closure.proofs.Settling.{settled_all}

@@ -10,7 +10,7 @@ use Rattle.vc_closure.proofs.Closings.{less}
 use Rattle.vc_closure.proofs.Matrices.{are_rows, push_count, push_is, rows_each}
 use Rattle.vc_closure.proofs.Pairs.{count_of, count_push, many_pairs, matrix_joined}
 use Rattle.vc_closure.proofs.Settling.{row_is}
-use Rattle.vc_model.specs.Lists.{In, below}
+use Rattle.vc_model.specs.Lists.{below}
 use Rattle.vc_model.specs.Members.{NoRepeat-up_from}
 use Rattle.vc_closure.proofs.settle.settled_rows.Goals as goal
 

@@ -1,4 +1,4 @@
-use Rattle.std.proofs.Common.{◌≡◌, ◌<◌, ◌∙◌, ℕ, cond, eqb, length, true, sym, ap, subst}
+use Rattle.std.proofs.Common.{◌≡◌, ◌<◌, ◌∙◌, cond, eqb, true, sym, ap, subst}
 use Rattle.vc_closure.specs.Rows.{AreSums, sum_at}
 use Rattle.vc_closure.specs.Settled.{AreWaiting}
 use Rattle.vc_closure.proofs.Settling.{from_one}

@@ -1,7 +1,7 @@
-use Rattle.std.proofs.Common.{◌≡◌, ◌<◌, ◌∙◌, ◌+◌, ℕ, List, cond, eqb, length, true, refl, sym, ap, subst}
+use Rattle.std.proofs.Common.{◌≡◌, ◌<◌, ◌∙◌, List, cond, eqb, length, true, refl, sym, ap, subst}
 use Rattle.std.proofs.lemmas.Option.{slice_get_read}
 use Rattle.vc_closure.specs.Rows.{AreSums, entries_at, sum_at}
-use Rattle.vc_closure.specs.Settled.{AreAmong, AreWaiting}
+use Rattle.vc_closure.specs.Settled.{AreWaiting}
 use Rattle.vc_closure.specs.declared.rows.Entry.{Entry}
 use Rattle.vc_closure.proofs.Places.{member_at}
 use Rattle.vc_closure.proofs.RowSums.{entries_at-read, mul_ok}

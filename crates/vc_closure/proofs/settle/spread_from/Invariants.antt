@@ -1,4 +1,4 @@
-use Rattle.std.proofs.Common.{◌≡◌, ℕ, length}
+use Rattle.std.proofs.Common.{ℕ, length}
 use Rattle.vc_closure.specs.Rows.{AreSums, sum_at}
 use Rattle.vc_closure.specs.Settled.{AreFrom, AreWaiting}
 use Rattle.vc_closure.proofs.settle.spread_from.Given as goal

@@ -1,4 +1,4 @@
-use Rattle.std.proofs.Common.{◌≡◌, ◌++◌, ◌∷◌, [], List, ℕ, inl, inr, sym, subst, true}
+use Rattle.std.proofs.Common.{List, ℕ, subst, true}
 use Rattle.std.proofs.lemmas.List.{length-set}
 use Rattle.vc_closure.proofs.Settling.{one_more_waits}
 use Rattle.vc_model.specs.Lists.{In}
