@@ -4,6 +4,8 @@
 #[cfg(test)]
 mod automata;
 #[cfg(test)]
+mod closures;
+#[cfg(test)]
 mod coefficients;
 #[cfg(test)]
 mod labels;

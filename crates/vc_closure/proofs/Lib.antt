@@ -15,3 +15,5 @@ pub mod TripleOrder
 pub mod BroughtSteps
 pub mod Unchanged
 pub mod Matrices
+pub mod Settling
+pub mod EmptyMoves

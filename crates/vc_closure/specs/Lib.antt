@@ -6,3 +6,4 @@ pub mod Formula
 pub mod Rows
 pub mod Brought
 pub mod Refused
+pub mod Settled

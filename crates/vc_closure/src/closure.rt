@@ -10,7 +10,7 @@ ghost use Rattle.vc_model.specs.Words.{Word};
 use crate::bring::closed;
 use crate::fault::{ProperFault, SumFault};
 use crate::laws::closings_keep_futures;
-use crate::rounds::rows_by_rounds;
+use crate::rounds::rows_with_circuits;
 use crate::rows::rows_in_order;
 use crate::search::{Found, search_circuit};
 use std::alloc::{AllocError, Global};
@@ -84,7 +84,7 @@ fn proper_of<L: LabelSet, S: Semiring>(
             if !S::ABSORBS {
                 return Err(ProperFault::Circuit(circuit));
             }
-            match proper_by_rounds(alloc, aut) {
+            match proper_with_circuits(alloc, aut) {
                 Ok(proper) => return Ok(proper),
                 Err(fault) => return Err(proper_fault(fault)),
             }
@@ -122,11 +122,12 @@ fn proper_in_order<L: LabelSet, S: Semiring>(
     }
 }
 
-/// The automaton that the closure makes, by as many matrices as there are states.
-fn proper_by_rounds<L: LabelSet, S: Semiring>(
+/// The automaton that the closure makes, where circuits are absorbed.
+fn proper_with_circuits<L: LabelSet, S: Semiring>(
     alloc: Global,
     aut: &Automaton<L, S>,
 ) -> Result<Proper<L, S>, SumFault<S>>
+    requires { S.ABSORBS ≡ true }
     ensures sets { IfOk result (λ p. p.sets ≡ aut.now.sets) }
     ensures closing { IfOk result (λ p. IsClosing S.set aut.now.automaton p.automaton (closure S.set
         aut.now.automaton)) }
@@ -136,7 +137,7 @@ fn proper_by_rounds<L: LabelSet, S: Semiring>(
 {
     empty_words_are_tested();
     closings_keep_futures::<S::Value>();
-    let rows = match rows_by_rounds(alloc, aut) {
+    let rows = match rows_with_circuits(alloc, aut) {
         Ok(rows) => rows,
         Err(fault) => return Err(fault),
     };

@@ -6,9 +6,12 @@ mod circuits;
 mod closure;
 mod fault;
 mod laws;
+mod moves;
 mod rounds;
 mod rows;
 mod search;
+mod settle;
+mod sums;
 
 pub use circuits::{circuit_empty_on, empty_circuit};
 pub use closure::proper;

@@ -1,5 +1,5 @@
-//! The closure where circuits are absorbed: matrix after matrix.
-ghost use Rattle.std.specs.Prelude.{◌≡◌, ◌<◌, ◌-◌, [], ◌∷◌, ℕ, IfErr, IfOk, IsTrue, length};
+//! The closure where circuits are absorbed: rows that settle, and else matrix after matrix.
+ghost use Rattle.std.specs.Prelude.{◌≡◌, ◌<◌, ◌-◌, [], ◌∷◌, ℕ, IfErr, IfOk, IsTrue, length, true};
 ghost use Rattle.vc_closure.specs.Closing.{closure, unit_entry};
 ghost use Rattle.vc_closure.specs.Formula.{IsMatrixStep};
 ghost use Rattle.vc_closure.specs.Refused.{IsPastPairs, IsSumCause};
@@ -7,15 +7,36 @@ ghost use Rattle.vc_closure.specs.Rows.{AreRows, AreRowsOf, IsRow, entries_at, r
 
 use crate::fault::SumFault;
 use crate::rows::{Entry, Rows, append, next_rows};
+use crate::settle::settled_rows;
 use std::alloc::{AllocError, Global};
 use vc_aut::{Automaton, automata_are_valid};
 use vc_label::LabelSet;
 use vc_ring::Semiring;
 
+/// The rows of the closure. Where a row does not settle or a step on the way does not fit, the
+/// matrices are made, whose steps say which one does not fit.
+pub(crate) fn rows_with_circuits<L: LabelSet, S: Semiring>(
+    alloc: Global,
+    aut: &Automaton<L, S>,
+) -> Result<Rows<S>, SumFault<S>>
+    requires { S.ABSORBS ≡ true }
+    ensures rows { IfOk result (λ rows. AreRows S.set aut.now.automaton.states rows.items) }
+    ensures entries { IfOk result (λ rows. AreRowsOf S.set aut.now.automaton (closure S.set
+        aut.now.automaton) rows.items) }
+    ensures fault { IfErr result (IsSumCause S.set (IsMatrixStep S.set aut.now.automaton)
+        (IsPastPairs (length aut.now.sets) aut.now.automaton)) }
+{
+    match settled_rows(alloc, aut) {
+        Ok(Some(rows)) => return Ok(rows),
+        Ok(None) => return rows_by_rounds(alloc, aut),
+        Err(fault) => return Err(fault),
+    }
+}
+
 /// The rows of the last of as many matrices as there are states: the first is the unit matrix, and
 /// each next one is the unit matrix and the empty transitions times the one before. Where two are
 /// the same, so are all that come after them.
-pub(crate) fn rows_by_rounds<L: LabelSet, S: Semiring>(
+fn rows_by_rounds<L: LabelSet, S: Semiring>(
     alloc: Global,
     aut: &Automaton<L, S>,
 ) -> Result<Rows<S>, SumFault<S>>

@@ -55,13 +55,13 @@ returns-then-not-ABSORBS-clause-fault g c =
     let a : g.S.Semiring.ABSORBS ≡ false = sym c.ABSORBS.ensures ∙ r in
     (a, e.0, e.1)
 
-pub returns-in-Ok-proper_by_rounds-clause-allowed : goal.returns-in-Ok-proper_by_rounds-clause-allowed
-returns-in-Ok-proper_by_rounds-clause-allowed g c =
+pub returns-in-Ok-proper_with_circuits-clause-allowed : goal.returns-in-Ok-proper_with_circuits-clause-allowed
+returns-in-Ok-proper_with_circuits-clause-allowed g c =
     let r : c.ABSORBS.result ≡ true = c.if-not-ABSORBS.false in
     inl (sym c.ABSORBS.ensures ∙ r)
 
-pub returns-in-Err-proper_by_rounds-clause-fault : goal.returns-in-Err-proper_by_rounds-clause-fault
-returns-in-Err-proper_by_rounds-clause-fault g c =
+pub returns-in-Err-proper_with_circuits-clause-fault : goal.returns-in-Err-proper_with_circuits-clause-fault
+returns-in-Err-proper_with_circuits-clause-fault g c =
     let R = g.S.Semiring.set in
     let of = transition_of {L = g.row.L.Denot} {S = g.row.S.Denot} {V = g.row.S-Value.Denot} g.L.LabelSet.parts in
     let n = length c.args.aut.now.sets in
@@ -71,5 +71,10 @@ returns-in-Err-proper_by_rounds-clause-fault g c =
     let found : IsCircuitOn n c.deref.result.now A (map of c.in-Circuit.circuit.items) = subst (λ f. IsFound g.L.LabelSet.parts n c.deref.result.now A f) c.in-Circuit.is c.in-Ok-search_circuit.ensures in
     let o : IsCircuitOn n (replicate n true) A (map of c.in-Circuit.circuit.items) = subst (λ (K : List Bool). IsCircuitOn n K A (map of c.in-Circuit.circuit.items)) all found in
     let r : c.ABSORBS.result ≡ true = c.if-not-ABSORBS.false in
-    subst (λ (f : ProperFault g.row.L.Denot g.row.S.Denot g.row.L-Label.Denot g.row.S-Value.Denot). IsCause g.L.LabelSet.parts R g.S.Semiring.ABSORBS n A f) (sym c.proper_fault-in-Err-proper_by_rounds.ensures)
-    (absorbed_cause g.row.L.Denot g.L.LabelSet.parts R g.S.Semiring.ABSORBS n A (sym c.ABSORBS.ensures ∙ r) (circuit_found R n A c.automata_are_valid.ensures.automaton (map of c.in-Circuit.circuit.items) o) c.in-Err-proper_by_rounds.fault c.in-Err-proper_by_rounds.ensures.fault)
+    subst (λ (f : ProperFault g.row.L.Denot g.row.S.Denot g.row.L-Label.Denot g.row.S-Value.Denot). IsCause g.L.LabelSet.parts R g.S.Semiring.ABSORBS n A f) (sym c.proper_fault-in-Err-proper_with_circuits.ensures)
+    (absorbed_cause g.row.L.Denot g.L.LabelSet.parts R g.S.Semiring.ABSORBS n A (sym c.ABSORBS.ensures ∙ r) (circuit_found R n A c.automata_are_valid.ensures.automaton (map of c.in-Circuit.circuit.items) o) c.in-Err-proper_with_circuits.fault c.in-Err-proper_with_circuits.ensures.fault)
+
+pub proper_with_circuits-requires : goal.proper_with_circuits-requires
+proper_with_circuits-requires g c =
+    let r : c.ABSORBS.result ≡ true = c.if-not-ABSORBS.false in
+    sym c.ABSORBS.ensures ∙ r

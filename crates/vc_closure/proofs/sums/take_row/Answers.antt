@@ -3,7 +3,7 @@ use Rattle.std.specs.List.Sorted.{IsNonDecreasing}
 use Rattle.std.proofs.lemmas.List.Sorted.{IsNonDecreasingBy-from_sort}
 use Rattle.vc_closure.specs.Rows.{AreSums}
 use Rattle.vc_closure.proofs.RowSums.{sums_permuted}
-use Rattle.vc_closure.proofs.rows.take_row.Goals as goal
+use Rattle.vc_closure.proofs.sums.take_row.Goals as goal
 
 pub move_sums-requires-clause-sums : goal.move_sums-requires-clause-sums
 move_sums-requires-clause-sums g c =

@@ -6,7 +6,7 @@ use Rattle.vc_closure.specs.Closing.{IsClosing, closure}
 use Rattle.vc_closure.specs.Rows.{AreRows, AreRowsOf}
 use Rattle.vc_closure.specs.declared.rows.Entry.{Entry}
 use Rattle.vc_closure.proofs.Causes.{told}
-use Rattle.vc_closure.proofs.closure.proper_by_rounds.Goals as goal
+use Rattle.vc_closure.proofs.closure.proper_with_circuits.Goals as goal
 
 pub closed-requires-clause-rows : goal.closed-requires-clause-rows
 closed-requires-clause-rows g c =

@@ -7,7 +7,7 @@ use Rattle.vc_closure.specs.declared.rows.Entry.{Entry}
 use Rattle.vc_model.specs.Lists.{In}
 use Rattle.vc_closure.proofs.Places.{member_at}
 use Rattle.vc_closure.proofs.RowSums.{IsTaking, taken_all, taken_low, taking_more, taking_none, taking_zero}
-use Rattle.vc_closure.proofs.rows.move_sums.Goals as goal
+use Rattle.vc_closure.proofs.sums.move_sums.Goals as goal
 
 pub loop-state-init : goal.loop-state-init
 loop-state-init g c =
