@@ -92,6 +92,7 @@ fn an_empty_circuit_is_absorbed(rt: HostRuntime) -> Result<(), Fail> {
         return Err(Fail::new("a circuit that is absorbed is refused"));
     };
     let closed = closed.automaton();
+    assert_eq!(rt; closed.states(), 2);
     assert_eq!(rt; closed.initial_weight(0), NminValue::Finite(0));
     assert_eq!(rt; closed.initial_weight(1), NminValue::Infinite);
     assert_eq!(rt; closed.final_weight(0), NminValue::Finite(3));
