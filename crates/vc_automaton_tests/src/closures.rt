@@ -99,7 +99,10 @@ fn an_empty_circuit_is_absorbed(rt: HostRuntime) -> Result<(), Fail> {
     assert_eq!(rt; closed.final_weight(1), NminValue::Finite(1));
     let transitions = closed.transitions_from(0);
     assert_eq!(rt; transitions.len(), 1);
-    assert_eq!(rt; (transitions[0].to, transitions[0].weight), (1, NminValue::Finite(7)));
+    assert_eq!(rt;
+        (transitions[0].to, transitions[0].weight),
+        (1, NminValue::Finite(7))
+    );
     Ok(())
 }
 
