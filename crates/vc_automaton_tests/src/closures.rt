@@ -92,13 +92,17 @@ fn an_empty_circuit_is_absorbed(rt: HostRuntime) -> Result<(), Fail> {
         return Err(Fail::new("a circuit that is absorbed is refused"));
     };
     let closed = closed.automaton();
+    assert_eq!(rt; closed.states(), 2);
     assert_eq!(rt; closed.initial_weight(0), NminValue::Finite(0));
     assert_eq!(rt; closed.initial_weight(1), NminValue::Infinite);
     assert_eq!(rt; closed.final_weight(0), NminValue::Finite(3));
     assert_eq!(rt; closed.final_weight(1), NminValue::Finite(1));
     let transitions = closed.transitions_from(0);
     assert_eq!(rt; transitions.len(), 1);
-    assert_eq!(rt; (transitions[0].to, transitions[0].weight), (1, NminValue::Finite(7)));
+    assert_eq!(rt;
+        (transitions[0].to, transitions[0].weight),
+        (1, NminValue::Finite(7))
+    );
     Ok(())
 }
 
