@@ -1,6 +1,6 @@
 //! What holds of each store, and of stores that have grown.
 ghost use Rattle.std.specs.Prelude.{◌≡◌, ◌↔◌, ℕ, IsTrue, List, length};
-ghost use Rattle.vc_expr.specs.Facts.{HasRootValues, IsStore};
+ghost use Rattle.vc_expr.specs.Facts.{HasRootLetters, HasRootValues, IsStore};
 ghost use Rattle.vc_expr.specs.Names.{Has, tree_of, Grows};
 ghost use Rattle.vc_expr.specs.declared.expr.Expr.{Expr};
 ghost use Rattle.vc_terms.specs.Terms.{Term, constant_of, HasTapes, IsValid};
@@ -14,7 +14,8 @@ use vc_terms::constants_of_terms;
 
 /// What is true of each store: names are equal exactly where their trees are, each tree is as the
 /// operations build it, its weights and its constant term are values, each star in it is defined,
-/// and its conjunctions and shuffles stand over single letters of one tape.
+/// and its conjunctions and shuffles stand over single letters of one tape, so that they stand
+/// where labels are single letters alone.
 pub fn stores_are_valid<L: LabelSet, S: Semiring>(store: &Exprs<L, S>)
     ensures names { (a b : Expr) → Has store.now a → Has store.now b → (a ≡ b)
         ↔ (tree_of store.now a ≡ tree_of store.now b) }
@@ -26,6 +27,8 @@ pub fn stores_are_valid<L: LabelSet, S: Semiring>(store: &Exprs<L, S>)
         → HasTapes tapes (tree_of store.now e) → IsValid S.set tapes (tree_of store.now e) }
     ensures joined { (e : Expr) (labels : L) → Has store.now e
         → JoinsLetters (length (L.sets labels)) (tree_of store.now e) }
+    ensures letters { (e : Expr) → Has store.now e
+        → Everywhere (HasRootLetters L.SINGLE) (tree_of store.now e) }
 {
     stores_hold(store);
     constants_of_terms::<S::Value>();
