@@ -2,6 +2,7 @@
 
 use crate::marks::BLOCK;
 use crate::rows::forward;
+use crate::runs::{Runs, runs_unless};
 use crate::size::{longest, past_cells, zeros};
 use std::alloc::{AllocError, Global};
 use std::marker::Model;
@@ -21,6 +22,8 @@ use vc_ring::{MakeFault, Overflow, Semiring};
 pub struct Evaluator<'p, L: LabelSet, S: Semiring> {
     automaton: &'p Proper<L, S>,
     single: bool,
+    runs: Runs<'p, L, S>,
+    origins: Vec<Option<usize>>,
     rows: Vec<S::Value>,
     marks: Vec<bool>,
 }
@@ -28,7 +31,9 @@ pub struct Evaluator<'p, L: LabelSet, S: Semiring> {
 impl<'p, L: LabelSet, S: Semiring> Model for Evaluator<'p, L, S> {
     ghost use Rattle.vc_aut.specs.Labelled.{Labelled, labelled_code};
     ghost use Rattle.vc_label.specs.contracts.tape_set.TapeSet.{the_row};
+    ghost use Rattle.std.specs.Prelude.{map};
     ghost use Rattle.vc_eval.specs.Ready.{IsReady};
+    ghost use Rattle.vc_eval.specs.Runs.{run_of, words_of};
 
     ghost Value = { Labelled S.Value };
 
@@ -36,7 +41,7 @@ impl<'p, L: LabelSet, S: Semiring> Model for Evaluator<'p, L, S> {
 
     ghost view = { λ e. e.automaton.now };
 
-    ghost invariant = { λ e. IsReady S.set e.automaton.now e.single e.rows.items e.marks.items };
+    ghost invariant = { λ e. IsReady S.set e.automaton.now e.single (words_of L.parts e.runs.labels.items) (map (run_of L.parts) e.runs.runs.items) e.origins.items e.rows.items e.marks.items };
 }
 
 impl<'p, L: LabelSet, S: Semiring> Evaluator<'p, L, S> {
@@ -71,9 +76,18 @@ impl<'p, L: LabelSet, S: Semiring> Evaluator<'p, L, S> {
         let Ok(marks) = Vec::from_elem(alloc, true, cells as usize / BLOCK + 1) else {
             return Err(MakeFault::Memory(AllocError));
         };
+        let single = longest == 1;
+        let Ok(runs) = runs_unless(alloc, single, aut.automaton()) else {
+            return Err(MakeFault::Memory(AllocError));
+        };
+        let Ok(origins) = Vec::from_elem(alloc, None, runs.labels.len()) else {
+            return Err(MakeFault::Memory(AllocError));
+        };
         Ok(Evaluator {
             automaton: aut,
-            single: longest == 1,
+            single,
+            runs,
+            origins,
             rows,
             marks,
         })
@@ -96,6 +110,8 @@ impl<'p, L: LabelSet, S: Semiring> Evaluator<'p, L, S> {
             word,
             positions,
             self.single,
+            &self.runs,
+            &mut self.origins,
             &mut self.rows,
             &mut self.marks,
         )

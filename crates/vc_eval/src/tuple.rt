@@ -5,6 +5,7 @@ ghost use Rattle.vc_eval.specs.Cells.{IsTupleAnswer};
 ghost use Rattle.vc_label.specs.Borrowed.{word_of};
 
 use crate::rows::forward;
+use crate::runs::runs_of;
 use crate::size::{cells_of, past_cells, zeros};
 use std::alloc::{AllocError, Global};
 use vc_aut::{Proper, proper_automata_are_proper};
@@ -35,11 +36,19 @@ pub fn eval_tuple<L: LabelSet, S: Semiring>(
     let Ok(mut rows) = zeros::<S>(alloc, cells) else {
         return Err(MakeFault::Memory(AllocError));
     };
+    let Ok(runs) = runs_of(alloc, aut.automaton()) else {
+        return Err(MakeFault::Memory(AllocError));
+    };
+    let Ok(mut origins) = Vec::from_elem(alloc, None, runs.labels.len()) else {
+        return Err(MakeFault::Memory(AllocError));
+    };
     match forward(
         aut.automaton(),
         word,
         cells / states as usize,
         false,
+        &runs,
+        &mut origins,
         &mut rows,
         &mut [],
     ) {

@@ -1,0 +1,31 @@
+use Rattle.std.proofs.Common.{◌≡◌, ◌<◌, ◌≤◌, ◌+◌, ◌==◌, ◌++◌, [], filter, map, ap, sym, ◌∙◌, arith, append_assoc, rules}
+use Rattle.std.proofs.lemmas.List.{append-nil}
+use Rattle.vc_eval.specs.Forward.{from_states}
+use Rattle.vc_eval.specs.Runs.{run_moves, run_of}
+use Rattle.vc_eval.proofs.LabelRuns.{no_runs}
+use Rattle.vc_eval.proofs.Sources.{next_source, no_states}
+use Rattle.vc_eval.proofs.runs.runs_of.Goals as goal
+
+pub loop-s-init : goal.loop-s-init
+loop-s-init g c = record { over = no_runs c.args.aut.now.automaton; moves = search rules }
+
+pub loop-s-preserved : goal.loop-s-preserved
+loop-s-preserved g c =
+    let A = c.args.aut.now.automaton in
+    let s = c.loop-s.s in
+    let before = run_moves (map (run_of g.L.LabelSet.parts) c.loop-s.runs.items) in
+    record {
+      over = c.in_ok-push_runs.ensures.over;
+      moves = ap (λ us. us ++ from_states A.transitions (s + 1) A.states) c.in_ok-push_runs.ensures.moves
+          ∙ append_assoc before (filter (λ u. u.from == s) A.transitions) (from_states A.transitions (s + 1) A.states)
+          ∙ ap (λ us. before ++ us) (sym (next_source A.transitions s A.states (omega arith)))
+          ∙ c.loop-s.invariant.moves;
+    }
+
+pub returns-clause-moves : goal.returns-clause-moves
+returns-clause-moves g c =
+    let A = c.args.aut.now.automaton in
+    let before = run_moves (map (run_of g.L.LabelSet.parts) c.loop-s.runs.items) in
+    sym (append-nil before)
+    ∙ ap (λ us. before ++ us) (sym (no_states A.transitions c.loop-s.s A.states (omega arith)))
+    ∙ c.loop-s.invariant.moves
