@@ -5,8 +5,8 @@ use Rattle.std.specs.List.{flat_map}
 use Rattle.std.proofs.lemmas.Bool.{eqb-true}
 use Rattle.std.proofs.lemmas.List.{get_or_append_left, length-append, take-map, take_rest, take-append-drop, map-append, length-drop, append-nil}
 use Rattle.std.proofs.lemmas.List.Concat.{flat_map-append}
-use Rattle.std.proofs.lemmas.Grind.{nat_tests}
-use Rattle.std.proofs.lemmas.List.Elements.{All-cons, All-drop, All-push, All-take, All-weaker}
+use Rattle.std.proofs.lemmas.Bool.Decides.{nat_tests}
+use Rattle.std.proofs.lemmas.List.Elements.{All-cons, All-nil, All-drop, All-push, All-take, All-weaker}
 use Rattle.vc_model.specs.Automata.{Transition, Automaton}
 use Rattle.vc_model.specs.Lists.{In}
 use Rattle.vc_model.specs.Members.{In-filter_from}
@@ -65,24 +65,15 @@ is_none (suc n) b e f = let g : (suc n == 0) ≡ false = grind (arith, nat_tests
 pub no_runs : {V : Type 0} (A : Automaton V) → AreRunsOver A [] []
 no_runs A = record { runs = λ k d l. absurd (omega (arith, l)); states = λ k d l. absurd (omega (arith, l)); labels = λ k d l. absurd (omega (arith, l)) }
 
--- a transition and those behind it that have its label
-pub within_rest : {X : Type 0} (rest : List X) (n : ℕ) → 0 < length rest → n ≤ length (take (length rest - 1) (drop 1 rest)) → 1 + n ≤ length rest
-within_rest rest n some h = let e = ap length (take_rest rest 1) ∙ length-drop 1 rest in omega (arith, some, h, e)
-
 -- what is left is shorter
 pub shorter_rest : {X : Type 0} (rest : List X) (n : ℕ) → 0 < length rest → 1 ≤ n → length (take (length rest - n) (drop n rest)) < length rest
 shorter_rest rest n some one = let e = ap length (take_rest rest n) ∙ length-drop n rest in omega (arith, some, one, e)
 
 module _ {T V : Type 0} (f : T → Transition V) where
-  -- a front of transitions that have the label of the first
-  pub front_label : (rest : List T) (x : T) (l : Word) (n width : ℕ) (after : List T) → 0 < length rest → x ≡ get_or rest 0 x → (f x).label ≡ l → after ≡ drop 1 rest
-      → All (λ u. u.label ≡ l) (take n (map f after)) → width ≡ 1 + n → All (λ u. u.label ≡ l) (map f (take width rest))
-  front_label [] x l n width after some e d a h k = absurd (omega arith)
-  front_label (y ∷ ys) x l n width after some e d a h k =
-      let w : width ≡ suc n = omega (arith, k) in
-      let tail : All (λ u. u.label ≡ l) (map f (take n ys)) = subst (All (λ u. u.label ≡ l)) (ap (λ zs. take n (map f zs)) a ∙ take-map f n ys) h in
-      subst (λ j. All (λ u. u.label ≡ l) (map f (take j (y ∷ ys)))) (sym w)
-      (All-cons (λ u. u.label ≡ l) (f y) (map f (take n ys)) (subst (λ z. (f z).label ≡ l) e d) tail)
+  -- the first has its own label
+  pub first_label : (rest : List T) (x : T) → 0 < length rest → x ≡ get_or rest 0 x → All (λ u. u.label ≡ (f x).label) (take 1 (map f rest))
+  first_label [] x some e = absurd (omega arith)
+  first_label (y ∷ ys) x some e = All-cons (λ u. u.label ≡ (f x).label) (f y) [] (subst (λ z. (f z).label ≡ (f x).label) e refl) (All-nil (λ u. u.label ≡ (f x).label))
 
   pub front_all : (P : Transition V → Type 0) (rest : List T) (n : ℕ) → All P (map f rest) → All P (map f (take n rest))
   front_all P rest n a = subst (All P) (take-map f n rest) (All-take P n (map f rest) a)

@@ -17,7 +17,7 @@ pub record IsReady {V : Type 0} (R : WeightSet V) (a : Labelled V) (single : Boo
   pub letters : IsTrue single → HasLetters a.automaton
   pub over : single ≡ false → AreRunsOver a.automaton words runs
   pub all : single ≡ false → run_moves runs ≡ by_source a.automaton
-  pub origins : single ≡ false → length origins ≡ length words
+  pub numbered : single ≡ false → length origins ≡ length words
   pub cells : length rows ≡ cells a.automaton
   pub in_range : InRange R rows
   pub marked : length rows ≤ 64 * length marks

@@ -12,7 +12,7 @@ ghost use Rattle.vc_model.specs.WeightSet.{InRange};
 ghost use Rattle.vc_ring.specs.Steps.{outcome};
 
 use crate::rows::{plus_product, row_before};
-use crate::runs::{Run, Runs};
+use crate::runs::Run;
 use crate::words::{is_end, place};
 use vc_aut::{Automaton, Transition};
 use vc_label::{LabelSet, Word};
@@ -21,7 +21,8 @@ use vc_ring::{Overflow, Semiring};
 /// Adds to the row that begins at a cell what the transitions bring whose labels end the prefix.
 pub(crate) fn gather_row<L: LabelSet, S: Semiring>(
     aut: &Automaton<L, S>,
-    runs: &Runs<'_, L, S>,
+    labels: &[&L::Label],
+    runs: &[Run<'_, L, S>],
     word: Word<'_>,
     front: Word<'_>,
     at: usize,
@@ -30,9 +31,9 @@ pub(crate) fn gather_row<L: LabelSet, S: Semiring>(
 ) -> Result<(), Overflow<S::Value>>
     requires tapes { length (word_of word) ≡ length (word_of front) }
     requires over { AreRunsOver aut.now.automaton
-        (words_of L.parts runs.now.labels.items) (map (run_of L.parts) runs.now.runs.items) }
-    requires all { run_moves (map (run_of L.parts) runs.now.runs.items) ≡ by_source aut.now.automaton }
-    requires origins { length origins.old ≡ length runs.now.labels.items }
+        (words_of L.parts labels.now) (map (run_of L.parts) runs.now) }
+    requires all { run_moves (map (run_of L.parts) runs.now) ≡ by_source aut.now.automaton }
+    requires origins { length origins.old ≡ length labels.now }
     requires at { at ≤ length rows.old }
     requires moves { AreMovesHere S.set (word_of word) aut.now.automaton (word_of front) at (length rows.old) }
     requires rows_in { InRange S.set rows.old }
@@ -45,8 +46,8 @@ pub(crate) fn gather_row<L: LabelSet, S: Semiring>(
     ensures rows_in { InRange S.set rows.new }
 {
     let states = aut.states() as usize;
-    if find_origins::<L, S>(&runs.labels, word, states, front, at, origins, rows) {
-        return gather_runs::<L, S>(&runs.runs, origins, at, rows);
+    if find_origins::<L, S>(labels, word, states, front, at, origins, rows) {
+        return gather_runs::<L, S>(runs, origins, at, rows);
     }
     Ok(())
 }

@@ -86,7 +86,7 @@ fn push_runs<'a, L: LabelSet, S: Semiring>(
     let mut next = 0;
     while !rest.is_empty() {
         let label = &rest[0].label;
-        let width = 1 + front_with::<L, S>(label, &rest[1..]);
+        let width = front_with::<L, S>(label, rest);
         let number = number_of::<L>(label, next, labels)?;
         push_run(s, number, &rest[..width], runs)?;
         rest = &rest[width..];
@@ -113,16 +113,20 @@ fn push_run<'a, L: LabelSet, S: Semiring>(
     Ok(())
 }
 
-/// How many of the transitions in front have the label.
+/// How many of the transitions in front have the label of the first.
 fn front_with<L: LabelSet, S: Semiring>(
     label: &L::Label,
     transitions: &[Transition<L, S>],
 ) -> usize
+    requires some { 0 < length transitions.now }
+    requires first { All (λ u. u.label ≡ L.parts label.now)
+        (take 1 (map (transition_of L.parts) transitions.now)) }
+    ensures some { 1 ≤ result }
     ensures within { result ≤ length transitions.now }
     ensures same { All (λ u. u.label ≡ L.parts label.now)
         (take result (map (transition_of L.parts) transitions.now)) }
 {
-    for place in 0..transitions.len() {
+    for place in 1..transitions.len() {
         if transitions[place].label != *label {
             return place;
         }

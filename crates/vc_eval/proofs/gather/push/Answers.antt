@@ -1,4 +1,4 @@
-use Rattle.std.proofs.Common.{◌≡◌, Some, inr, length, map, ap, sym, ◌∙◌, arith}
+use Rattle.std.proofs.Common.{◌≡◌, Some, get_or, inr, length, map, ap, sym, ◌∙◌, arith}
 use Rattle.std.proofs.lemmas.List.{get_or_default}
 use Rattle.vc_aut.specs.Stored.{transition_of}
 use Rattle.vc_eval.specs.LetterMoves.{IsMoveInto}
@@ -14,8 +14,8 @@ returns-then-eq-clause-steps g c =
     let rows = c.args.rows.now in
     let us = map (transition_of g.L.LabelSet.parts) c.args.transitions.now in
     let v = c.index-rows-cell.result in
-    let none : v ≡ R.zero = (g.met.S.Semiring.same v c.zero.result).0 (sym c.eq.ensures ∙ c.if-eq.true) ∙ c.zero.ensures in
-    let z : entry R rows c.args.cell ≡ R.zero = sym (c.index-rows-cell.is ∙ get_or_default rows c.args.cell v R.zero (omega arith)) ∙ none in
+    let none = (g.met.S.Semiring.same (get_or rows c.args.cell v) c.zero.result).0 (sym c.eq.ensures ∙ c.if-eq.true) ∙ c.zero.ensures in
+    let z : entry R rows c.args.cell ≡ R.zero = sym (get_or_default rows c.args.cell v R.zero (omega arith)) ∙ none in
     sym (idle_steps g.met.S.Semiring.laws g.met.S.Semiring.ranges c.args.at (at_cell R (Some c.args.cell)) us rows c.requires.rows_in
     (λ u j. let m = In_all (IsMoveInto R c.args.at (length rows)) us c.requires.moves u j in (m.to, m.weight))
     (λ u j. inr (ap Some z)))
@@ -26,6 +26,6 @@ returns-then-eq-clause-rows g c =
     let rows = c.args.rows.now in
     let us = map (transition_of g.L.LabelSet.parts) c.args.transitions.now in
     let v = c.index-rows-cell.result in
-    let none : v ≡ R.zero = (g.met.S.Semiring.same v c.zero.result).0 (sym c.eq.ensures ∙ c.if-eq.true) ∙ c.zero.ensures in
-    let z : entry R rows c.args.cell ≡ R.zero = sym (c.index-rows-cell.is ∙ get_or_default rows c.args.cell v R.zero (omega arith)) ∙ none in
+    let none = (g.met.S.Semiring.same (get_or rows c.args.cell v) c.zero.result).0 (sym c.eq.ensures ∙ c.if-eq.true) ∙ c.zero.ensures in
+    let z : entry R rows c.args.cell ≡ R.zero = sym (get_or_default rows c.args.cell v R.zero (omega arith)) ∙ none in
     sym (idle_moved g.met.S.Semiring.laws g.met.S.Semiring.ranges c.args.at (at_cell R (Some c.args.cell)) us rows (λ u j. inr (ap Some z)))

@@ -53,3 +53,15 @@ gather_row-requires-clause-moves g c =
     let R = g.S.Semiring.set in
     let A = c.args.aut.now.automaton in
     λ u i. subst (λ n. IsMoveHere R (word_of c.args.word) A.states (word_of c.args.front) c.args.at n u) (sym c.clear.auto.rows) (c.requires.moves u i)
+
+pub gather_row-requires-clause-over : goal.gather_row-requires-clause-over
+gather_row-requires-clause-over g c =
+    rw (c.deref.ensures.value, c.deref-2.ensures.value) (c.requires.over c.if-single.false)
+
+pub gather_row-requires-clause-all : goal.gather_row-requires-clause-all
+gather_row-requires-clause-all g c =
+    rw c.deref-2.ensures.value (c.requires.all c.if-single.false)
+
+pub gather_row-requires-clause-origins : goal.gather_row-requires-clause-origins
+gather_row-requires-clause-origins g c =
+    rw c.deref.ensures.value (c.requires.origins c.if-single.false)

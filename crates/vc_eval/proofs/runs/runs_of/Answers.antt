@@ -7,7 +7,9 @@ use Rattle.vc_eval.proofs.Sources.{next_source, no_states}
 use Rattle.vc_eval.proofs.runs.runs_of.Goals as goal
 
 pub loop-s-init : goal.loop-s-init
-loop-s-init g c = record { over = no_runs c.args.aut.now.automaton; moves = search rules }
+loop-s-init g c =
+    rw (c.new-labels.ensures.items, c.new-runs.ensures.items)
+    (record { over = no_runs c.args.aut.now.automaton; moves = search rules })
 
 pub loop-s-preserved : goal.loop-s-preserved
 loop-s-preserved g c =

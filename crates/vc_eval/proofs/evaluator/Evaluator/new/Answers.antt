@@ -15,7 +15,7 @@ invariant_of-result g c =
           (ap (λ (X : Labelled g.row.S-Value.Denot). longest 1 X.automaton.transitions) (sym c.automaton-2.ensures) ∙ sym c.longest-longest.ensures ∙ eqb-true c.longest-longest.result 1 t);
       over = search rules;
       all = search rules;
-      origins = search rules;
+      numbered = search rules;
       cells = cells_by c.automaton-2.result.now c.args.aut.now (length c.in-Ok.rows.items) c.longest-longest.result c.states-states.result c.automaton-2.ensures c.longest-longest.ensures (search rules) (search rules);
       in_range = search rules;
       marked = marks_enough ((c.longest-longest.result + 1) * c.states-states.result) (length c.in-Ok.rows.items) (length c.in-Ok-from_elem.marks.items) (search rules) (search rules);
