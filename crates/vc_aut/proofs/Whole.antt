@@ -73,7 +73,7 @@ module _ {V : Type 0} (n : ℕ) where
 pub whole : {V : Type 0} (R : WeightSet V) (tapes : ℕ) (A : Automaton V) → IsAutomaton R tapes A → (kept : List ℕ) (places : List (Option ℕ)) → AreUseful R A kept places → length kept ≡ A.states → IsTrim R A A kept
 whole R tapes A G kept places u e =
     let all : kept ≡ below A.states = all_from A.states 0 kept u.order (λ x i. let l : x < A.states = ((u.useful x).0 i).0 in (omega arith, omega arith)) e in
-    let own : (i : ℕ) → i < length kept → i ≡ get_or kept i 0 = λ i l. sym (ap (λ ks. get_or ks i 0) all ∙ at_own_place A.states 0 i (subst (λ k. i < k) e l)) in
+    let own : (i : ℕ) → i < length kept → i ≡ get_or kept i 0 = λ i l. let r : get_or (up_from 0 A.states) i 0 ≡ 0 + i = at_own_place A.states 0 i (subst (λ k. i < k) e l) in sym (ap (λ ks. get_or ks i 0) all ∙ omega arith) in
     record {
       useful = u.useful;
       order = u.order;

@@ -12,13 +12,13 @@ use Rattle.vc_aut.proofs.Trimmed.{parts_labelled, trimmed}
 use Rattle.vc_aut.proofs.Whole.{whole}
 use Rattle.vc_aut.proofs.useful.useful_part.Goals as goal
 
-pub returns-then-len-eq-states-clause-trim : goal.returns-then-len-eq-states-clause-trim
-returns-then-len-eq-states-clause-trim g c =
+pub returns-then-len-states-clause-trim : goal.returns-then-len-states-clause-trim
+returns-then-len-states-clause-trim g c =
     let R = g.S.Semiring.set in
     let A = c.args.aut.now.automaton in
     let kept = c.in_ok-kept.kept.states.items in
     let n : c.len.result ≡ length kept = search rules in
-    let all : length kept ≡ A.states = sym n ∙ c.if-len-eq-states.true ∙ c.states.ensures in
+    let all : length kept ≡ A.states = sym n ∙ c.if-len-states.true ∙ c.states.ensures in
     let t = whole R (length c.args.aut.now.sets) A c.automata_are_valid.ensures.automaton kept c.in_ok-kept.kept.places.items c.in_ok-kept.ensures all in
     IfOk-weaker c.copy.result _ _ (λ a h. (kept, subst (λ (x : Labelled g.row.S-Value.Denot). IsTrim R A x.automaton kept) (sym h) t)) c.copy.ensures
 
