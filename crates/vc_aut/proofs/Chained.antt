@@ -1,5 +1,5 @@
 -- Links by which transitions are gone along backwards, and lists of states that are followed in parts.
-use Rattle.std.proofs.Common.{◌≡◌, ◌≢◌, ℕ, ◌<◌, ◌≤◌, ◌+◌, ◌-◌, List, [], ◌∷◌, ◌++◌, Bool, true, false, cond, eqb, length, map, filter, set, take, drop, get_or, refl, sym, ap, ◌∙◌, inl, inr, ◌⊎◌, subst, arith, length-append, replicate}
+use Rattle.std.proofs.Common.{◌≡◌, ◌≢◌, ℕ, ◌<◌, ◌≤◌, ◌+◌, ◌-◌, List, [], ◌∷◌, ◌++◌, Bool, true, cond, eqb, length, map, filter, set, take, drop, get_or, refl, sym, ap, ◌∙◌, inl, inr, ◌⊎◌, subst, arith, replicate}
 use Rattle.std.specs.Prelude.{◌↔◌}
 use Rattle.std.proofs.lemmas.Bool.{cases_eq, cases_lt, eq-eqb}
 use Rattle.std.proofs.lemmas.List.{length-set, length-take-le, take_all, take-append-le, take-append-drop, drop_all, drop-append-le, drop_more, get_or-set_same, get_or-set_other, get_or-take, get_or_append_left, get_or_push, get_or-map, get_or-replicate, length_push, length-replicate, map-append}
@@ -10,7 +10,6 @@ use Rattle.vc_model.specs.Members.{In-append_left, In-append_right, In-append_ca
 use Rattle.vc_aut.proofs.Kept.{eqb_not}
 use Rattle.vc_aut.proofs.Reached.{linked-more}
 use Rattle.vc_aut.specs.Links.{AreLinks, IsFollowed, IsLink, far, linked}
-use Rattle.vc_aut.specs.Marks.{is_marked}
 
 -- a list is followed where two that have its members are followed one after the other
 pub followed_both : (xs ys zs : List ℕ) → ((q : ℕ) → In q zs ↔ (In q xs ⊎ In q ys)) → (m : List Bool) (w : List ℕ) (n : List Bool) (v : List ℕ) (o : List Bool) (u : List ℕ)

@@ -5,7 +5,6 @@ use Rattle.vc_model.specs.Automata.{Automaton, IsAutomaton, Transition, final_we
 use Rattle.vc_model.specs.Lists.{In, IsIncreasing, below, up_from}
 use Rattle.vc_model.specs.Machines.{place_in}
 use Rattle.vc_model.specs.Members.{up_from-In}
-use Rattle.vc_model.specs.Numbering.{is_among}
 use Rattle.vc_model.specs.Trims.{is_between, placed, IsTrim}
 use Rattle.vc_model.specs.WeightSet.{WeightSet}
 use Rattle.vc_aut.proofs.Kept.{eqb_not}

@@ -1,4 +1,4 @@
-use Rattle.std.proofs.Common.{List, ℕ, Bool, map, false, sym, subst, ◌<◌}
+use Rattle.std.proofs.Common.{List, Bool, map, false, sym, subst, ◌<◌}
 use Rattle.std.specs.Prelude.{OnOk}
 use Rattle.vc_model.specs.Automata.{Transition}
 use Rattle.vc_model.specs.Lists.{In}

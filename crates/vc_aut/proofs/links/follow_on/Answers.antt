@@ -1,4 +1,4 @@
-use Rattle.std.proofs.Common.{◌≡◌, ◌∙◌, ◌<◌, ◌+◌, ◌++◌, ◌∷◌, [], List, ℕ, length, map, false, take, refl, sym, ap, subst}
+use Rattle.std.proofs.Common.{◌≡◌, ◌∙◌, ◌<◌, ◌+◌, ◌++◌, ◌∷◌, [], List, ℕ, map, false, take, refl, sym, ap, subst}
 use Rattle.std.proofs.lemmas.List.{map-append, take-map, take_all}
 use Rattle.vc_model.specs.Automata.{Transition}
 use Rattle.vc_model.specs.Members.{In-map}
