@@ -3,6 +3,7 @@
 
 mod automaton;
 mod builder;
+mod copies;
 mod gather;
 mod laws;
 mod links;
