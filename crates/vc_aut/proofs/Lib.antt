@@ -20,3 +20,5 @@ pub mod WiderSets
 pub mod Reached
 pub mod Kept
 pub mod Trimmed
+pub mod Chained
+pub mod Whole

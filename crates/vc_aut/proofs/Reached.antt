@@ -1,16 +1,14 @@
 -- States that are reached along links, and the links that transitions make.
 use Rattle.std.proofs.Common.{◌≡◌, ℕ, ◌<◌, ◌+◌, List, [], ◌∷◌, ◌++◌, Bool, true, false, cond, eqb, length, map, filter, set, take, get_or, refl, sym, ap, ◌∙◌, inl, inr, ◌⊎◌, subst, zero, suc, arith, length-append, append-nil, below_more}
 use Rattle.std.specs.Prelude.{◌↔◌}
-use Rattle.std.specs.Global.{Vec}
 use Rattle.std.proofs.lemmas.Bool.{false≢true, eqb-true, eq-eqb}
 use Rattle.std.proofs.lemmas.List.{length-set, map-append, take-map, take_more}
 use Rattle.std.proofs.lemmas.List.Elements.{filter-append}
 use Rattle.vc_model.specs.Automata.{Transition}
 use Rattle.vc_model.specs.Lists.{In}
 use Rattle.vc_model.specs.Members.{In-append_left, In-append_right, In-append_cases, In-filter, In-filter_from, In-map, In-map_from}
-use Rattle.vc_aut.proofs.Kept.{eqb_not}
 use Rattle.vc_aut.specs.Marks.{is_marked, unmarked, marked_kept, marked_cases, marked_here, unmarked_less}
-use Rattle.vc_aut.specs.Links.{IsChain, IsFollowed, IsReached, far, last_of, linked, links_at, near}
+use Rattle.vc_aut.specs.Links.{IsChain, IsFollowed, IsReached, far, last_of, linked, near}
 
 -- what is read is a member
 pub In-read : {X : Type 0} (xs : List X) (i : ℕ) (d : X) → i < length xs → In (get_or xs i d) xs
@@ -125,32 +123,6 @@ module _ (next : ℕ → List ℕ) (first : List Bool) where
       along p [] m c = m
       along p (q ∷ qs) m c = along q qs (elim (h.edges p q m c.0) [ inl n ↦ n | inr i ↦ absurd i ]) c.1
 
--- the list at a place that is read
-pub links_at-read : (vs : List (Vec ℕ)) (p : ℕ) (d : Vec ℕ) → p < length vs → (get_or vs p d).items ≡ links_at vs p
-links_at-read [] p d l = absurd (omega arith)
-links_at-read (v ∷ vs) zero d l = refl
-links_at-read (v ∷ vs) (suc p) d l = links_at-read vs p d (omega arith)
-
-same_test : (i p : ℕ) → eqb (suc i) (suc p) ≡ eqb i p
-same_test i p = go (eqb i p) refl
-  where
-    go : (b : Bool) → eqb i p ≡ b → eqb (suc i) (suc p) ≡ b
-    go true e = eq-eqb (suc i) (suc p) (ap suc (eqb-true i p e))
-    go false e = eqb_not (suc i) (suc p) (λ q. false≢true (sym e ∙ eq-eqb i p (omega arith)))
-
-pub links_at-set : (vs : List (Vec ℕ)) (i p : ℕ) (v : Vec ℕ) → i < length vs → links_at (set vs i v) p ≡ cond (eqb i p) v.items (links_at vs p)
-links_at-set [] i p v l = absurd (omega arith)
-links_at-set (w ∷ ws) zero zero v l = refl
-links_at-set (w ∷ ws) zero (suc p) v l = let e : eqb 0 (suc p) ≡ false = eqb_not 0 (suc p) (omega arith) in rw e refl
-links_at-set (w ∷ ws) (suc i) zero v l = let e : eqb (suc i) 0 ≡ false = eqb_not (suc i) 0 (omega arith) in rw e refl
-links_at-set (w ∷ ws) (suc i) (suc p) v l = let e : eqb (suc i) (suc p) ≡ eqb i p = same_test i p in rw e (links_at-set ws i p v (omega arith))
-
-pub links_at-push : (vs : List (Vec ℕ)) (v : Vec ℕ) → v.items ≡ [] → ((p : ℕ) → links_at vs p ≡ []) → (p : ℕ) → links_at (vs ++ v ∷ []) p ≡ []
-links_at-push [] v e h zero = e
-links_at-push [] v e h (suc p) = refl
-links_at-push (w ∷ ws) v e h zero = h 0
-links_at-push (w ∷ ws) v e h (suc p) = links_at-push ws v e (λ q. h (suc q)) p
-
 -- one transition more
 pub linked-more : {V : Type 0} (back : Bool) (ts : List (Transition V)) (t : Transition V) (p : ℕ) → linked back (ts ++ t ∷ []) p ≡ cond (eqb (near back t) p) (linked back ts p ++ far back t ∷ []) (linked back ts p)
 linked-more {V} back ts t p =
@@ -160,14 +132,6 @@ linked-more {V} back ts t p =
     go : (b : Bool) → linked back ts p ++ map (far back) (cond b (t ∷ []) []) ≡ cond b (linked back ts p ++ far back t ∷ []) (linked back ts p)
     go true = refl
     go false = append-nil (linked back ts p)
-
-pub links_more : {V : Type 0} (back : Bool) (ts : List (Transition V)) (t : Transition V) (vs : List (Vec ℕ)) (v : Vec ℕ) → ((p : ℕ) → links_at vs p ≡ linked back ts p) → near back t < length vs → v.items ≡ links_at vs (near back t) ++ far back t ∷ []
-    → (p : ℕ) → links_at (set vs (near back t) v) p ≡ linked back (ts ++ t ∷ []) p
-links_more back ts t vs v h l is p = links_at-set vs (near back t) p v l ∙ go (eqb (near back t) p) refl ∙ sym (linked-more back ts t p)
-  where
-    go : (b : Bool) → eqb (near back t) p ≡ b → cond b v.items (links_at vs p) ≡ cond b (linked back ts p ++ far back t ∷ []) (linked back ts p)
-    go true e = is ∙ ap (λ xs. xs ++ far back t ∷ []) (h (near back t) ∙ ap (linked back ts) (eqb-true (near back t) p e))
-    go false e = h p
 
 -- where links lead
 pub linked-In : {V : Type 0} (back : Bool) (ts : List (Transition V)) (p q : ℕ) → In q (linked back ts p) → (t : Transition V) × In t ts × (near back t ≡ p) × (q ≡ far back t)
@@ -216,19 +180,3 @@ module _ (marks : List Bool) (s : ℕ) (states : List ℕ) (h : (q : ℕ) → ((
       | inr (inr j) ↦ absurd j
     ]),
   )
-
-pub near_within : {V : Type 0} (back : Bool) (t : Transition V) (n : ℕ) → t.from < n → t.to < n → near back t < n
-near_within true t n f g = g
-near_within false t n f g = f
-
-pub far_within : {V : Type 0} (back : Bool) (t : Transition V) (n : ℕ) → t.from < n → t.to < n → far back t < n
-far_within true t n f g = f
-far_within false t n f g = g
-
--- the same links reach the same states
-pub chain_same : (f g : ℕ → List ℕ) → ((p : ℕ) → f p ≡ g p) → (p : ℕ) (qs : List ℕ) → IsChain f p qs → IsChain g p qs
-chain_same f g e p [] h = tt
-chain_same f g e p (q ∷ qs) h = (subst (λ xs. In q xs) (e p) h.0, chain_same f g e q qs h.1)
-
-pub reached_same : (f g : ℕ → List ℕ) → ((p : ℕ) → f p ≡ g p) → (first : List Bool) (q : ℕ) → IsReached f first q → IsReached g first q
-reached_same f g e first q r = record { start = r.start; begins = r.begins; chain = r.chain; is = chain_same f g e r.start r.chain r.is; ends = r.ends }

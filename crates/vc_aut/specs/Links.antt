@@ -1,6 +1,5 @@
 -- States that transitions link, and the states that links lead to.
-use Rattle.std.specs.Prelude.{◌≡◌, ◌==◌, ◌+◌, ℕ, zero, suc, List, [], ◌∷◌, length, map, filter, Bool, true, ◌⊎◌, if◌then◌else◌}
-use Rattle.std.specs.Global.{Vec}
+use Rattle.std.specs.Prelude.{◌≡◌, ◌==◌, ◌<◌, ◌≤◌, ◌+◌, ◌-◌, ℕ, List, [], ◌∷◌, length, map, filter, take, drop, slice_index_or, Bool, true, ◌⊎◌, if◌then◌else◌}
 use Rattle.vc_model.specs.Automata.{Transition}
 use Rattle.vc_model.specs.Lists.{In}
 use Rattle.vc_aut.specs.Marks.{is_marked, unmarked}
@@ -16,12 +15,6 @@ far back t = if back then t.from else t.to
 -- where the transitions from a state lead
 abbrev pub linked : {V : Type 0} → Bool → List (Transition V) → ℕ → List ℕ
 linked back ts p = map (far back) (filter (λ t. near back t == p) ts)
-
--- the list at a place
-abbrev pub links_at : List (Vec ℕ) → ℕ → List ℕ
-links_at [] p = []
-links_at (v ∷ vs) zero = v.items
-links_at (v ∷ vs) (suc p) = links_at vs p
 
 -- each state is linked with the one after it
 abbrev pub IsChain : (ℕ → List ℕ) → ℕ → List ℕ → Type 0
@@ -50,3 +43,16 @@ pub record IsFollowed (next : List ℕ) (marks : List Bool) (open_ : List ℕ) (
   pub still : (q : ℕ) → In q open_ → In q later
   pub inside : (q : ℕ) → In q later → In q open_ ⊎ In q next
   pub count : unmarked after + length later ≡ unmarked marks + length open_
+
+-- the place behind the last of the transitions to p, or 0 where none leads there
+pub record IsLink {V : Type 0} (ts : List (Transition V)) (p link : ℕ) : Type 0 where
+  pub within : link ≤ length ts
+  pub none : linked true (drop link ts) p ≡ []
+  pub leads : 0 < link → (d : Transition V) → (slice_index_or ts (link - 1) d).to ≡ p
+
+-- for n states the link of each, and for each transition the link of its target among those before it
+pub record AreLinks {V : Type 0} (ts : List (Transition V)) (n : ℕ) (last before : List ℕ) : Type 0 where
+  pub states : length last ≡ n
+  pub count : length before ≡ length ts
+  pub ends : (p d : ℕ) → p < n → IsLink ts p (slice_index_or last p d)
+  pub steps : (i d : ℕ) (t : Transition V) → i < length ts → IsLink (take i ts) (slice_index_or ts i t).to (slice_index_or before i d)

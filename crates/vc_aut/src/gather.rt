@@ -15,8 +15,11 @@ use std::mem;
 use vc_label::{LabelSet, words_are_ordered};
 use vc_ring::{Limit, MakeFault, Measure, Semiring};
 
-/// The sum of the transitions, in order and without zero sums.
-pub(crate) fn gather<L: LabelSet, S: Semiring>(
+/// The sum of the transitions, in order and without zero sums, as `Automaton::from_transitions`
+/// makes it: for an operation that gathers state by state what it brings, and so keeps no more than
+/// the sums. `Overflow` names an addition of two of them that does not fit, and `Limit` comes where
+/// more than 4,000,000 triples are different.
+pub fn gather<L: LabelSet, S: Semiring>(
     alloc: Global,
     mut transitions: Vec<Transition<L, S>>,
 ) -> Result<Vec<Transition<L, S>>, MakeFault<S::Value>>

@@ -1,5 +1,6 @@
-ghost use Rattle.std.specs.Prelude.{◌≡◌, ◌↔◌, ◌<◌, ◌^◌, ℕ, [], IfOk, OnOk, length, map, not, true};
-ghost use Rattle.vc_aut.specs.Links.{IsFollowed, IsReached, far, linked, links_at, near};
+//! States that transitions lead to, or from which they lead.
+ghost use Rattle.std.specs.Prelude.{◌≡◌, ◌↔◌, ◌∷◌, ◌<◌, ◌^◌, ℕ, [], IfOk, OnOk, length, map, not, false, true};
+ghost use Rattle.vc_aut.specs.Links.{AreLinks, IsFollowed, IsReached, far, linked};
 ghost use Rattle.vc_aut.specs.Marks.{is_marked};
 ghost use Rattle.vc_aut.specs.Stored.{transition_of};
 ghost use Rattle.vc_model.specs.Lists.{In};
@@ -27,8 +28,8 @@ pub(crate) fn reached<L: LabelSet, S: Semiring>(
 {
     automata_are_valid(aut);
     let mut marks = weighty::<S>(alloc, weights)?;
-    let next = links(alloc, aut, back)?;
-    reach(alloc, &next, &mut marks)?;
+    let links = make_links(alloc, aut, back)?;
+    reach(alloc, aut, &links, back, &mut marks)?;
     Ok(marks)
 }
 
@@ -43,61 +44,60 @@ fn weighty<S: Semiring>(alloc: Global, weights: &[S::Value]) -> Result<Vec<bool>
     Ok(marks)
 }
 
-/// For each state the states to which its transitions lead, or from which transitions lead to it
-/// where they are gone along backwards.
-fn links<L: LabelSet, S: Semiring>(
+/// The transitions to each state, as chains that begin at the last one. A link is the place behind
+/// a transition, and 0 ends a chain.
+#[derive(Drop)]
+struct Links {
+    last: Vec<usize>,
+    before: Vec<usize>,
+}
+
+/// The links by which transitions are gone along backwards. Forwards none is needed, since those
+/// from a state stand together.
+fn make_links<L: LabelSet, S: Semiring>(
     alloc: Global,
     aut: &Automaton<L, S>,
     back: bool,
-) -> Result<Vec<Vec<u32>>, AllocError>
-    ensures count { IfOk result (λ v. length v.items ≡ aut.now.automaton.states) }
-    ensures links { IfOk result (λ v. (p : ℕ)
-        → links_at v.items p ≡ linked back aut.now.automaton.transitions p) }
+) -> Result<Links, AllocError>
+    ensures { IfOk result (λ links. back ≡ true → AreLinks aut.now.automaton.transitions
+        aut.now.automaton.states links.last.items links.before.items) }
 {
     automata_are_valid(aut);
-    let mut links = no_links(alloc, aut.states() as usize)?;
+    if !back {
+        return Ok(Links {
+            last: Vec::new(alloc),
+            before: Vec::new(alloc),
+        });
+    }
+    let mut last = Vec::from_elem(alloc, 0, aut.states() as usize)?;
+    let mut before = Vec::with_capacity(alloc, aut.transitions().len())?;
     for transition in aut.transitions() {
-        let (near, far) = ends(transition, back);
-        links[near as usize].push(far)?;
+        let link = last[transition.to as usize];
+        before.push(link)?;
+        last[transition.to as usize] = before.len();
     }
-    Ok(links)
+    Ok(Links { last, before })
 }
 
-/// No link from any of so many states.
-fn no_links(alloc: Global, states: usize) -> Result<Vec<Vec<u32>>, AllocError>
-    ensures count { IfOk result (λ v. length v.items ≡ states) }
-    ensures none { IfOk result (λ v. (p : ℕ) → links_at v.items p ≡ []) }
-{
-    let mut links = Vec::with_capacity(alloc, states)?;
-    for _ in 0..states {
-        links.push(Vec::new(alloc))?;
-    }
-    Ok(links)
-}
-
-/// Where a transition begins and where it leads, or these two the other way round.
-fn ends<L: LabelSet, S: Semiring>(transition: &Transition<L, S>, back: bool) -> (u32, u32)
-    ensures near { result.0 ≡ near back (transition_of L.parts transition.now) }
-    ensures far { result.1 ≡ far back (transition_of L.parts transition.now) }
-{
-    if back {
-        return (transition.to, transition.from);
-    }
-    (transition.from, transition.to)
-}
-
-/// Marks all states to which links lead from marked ones.
-fn reach(alloc: Global, links: &[Vec<u32>], marks: &mut [bool]) -> Result<(), AllocError>
-    requires count { length marks.old ≡ length links.now }
-    requires few { length links.now < 2 ^ 32 }
-    requires to { (p q : ℕ) → In q (links_at links.now p) → q < length links.now }
+/// Marks all states to which transitions lead from marked ones, or from which they lead to those.
+fn reach<L: LabelSet, S: Semiring>(
+    alloc: Global,
+    aut: &Automaton<L, S>,
+    links: &Links,
+    back: bool,
+    marks: &mut [bool],
+) -> Result<(), AllocError>
+    requires count { length marks.old ≡ aut.now.automaton.states }
+    requires links { back ≡ true → AreLinks aut.now.automaton.transitions
+        aut.now.automaton.states links.now.last.items links.now.before.items }
     ensures count { OnOk result (length marks.new ≡ length marks.old) }
     ensures reached { OnOk result ((q : ℕ) → (is_marked marks.new q ≡ true)
-        ↔ IsReached (links_at links.now) marks.old q) }
+        ↔ IsReached (linked back aut.now.automaton.transitions) marks.old q) }
 {
+    automata_are_valid(aut);
     let mut waiting = marked(alloc, marks)?;
     'states: while let Some(state) = waiting.pop() {
-        follow(&links[state as usize], marks, &mut waiting)?;
+        follow(aut, links, back, state, marks, &mut waiting)?;
     }
     Ok(())
 }
@@ -117,18 +117,84 @@ fn marked(alloc: Global, marks: &[bool]) -> Result<Vec<u32>, AllocError>
     Ok(states)
 }
 
-/// Marks the states of a list, and adds those to the waiting ones that were not marked.
-fn follow(next: &[u32], marks: &mut [bool], waiting: &mut Vec<u32>) -> Result<(), AllocError>
-    requires { (q : ℕ) → In q next.now → q < length marks.old }
-    ensures { OnOk result (IsFollowed next.now marks.old waiting.old.items
+/// Marks the states that a state is linked with, and adds those to the waiting ones that were not
+/// marked.
+fn follow<L: LabelSet, S: Semiring>(
+    aut: &Automaton<L, S>,
+    links: &Links,
+    back: bool,
+    state: u32,
+    marks: &mut [bool],
+    waiting: &mut Vec<u32>,
+) -> Result<(), AllocError>
+    requires state { state < aut.now.automaton.states }
+    requires count { length marks.old ≡ aut.now.automaton.states }
+    requires links { back ≡ true → AreLinks aut.now.automaton.transitions
+        aut.now.automaton.states links.now.last.items links.now.before.items }
+    ensures { OnOk result (IsFollowed (linked back aut.now.automaton.transitions state) marks.old
+        waiting.old.items marks.new waiting.new.items) }
+{
+    automata_are_valid(aut);
+    if back {
+        return follow_back(aut, links, state, marks, waiting);
+    }
+    follow_on(aut.transitions_from(state), marks, waiting)
+}
+
+/// Marks the states to which transitions lead, as `follow` does.
+fn follow_on<L: LabelSet, S: Semiring>(
+    transitions: &[Transition<L, S>],
+    marks: &mut [bool],
+    waiting: &mut Vec<u32>,
+) -> Result<(), AllocError>
+    requires { (q : ℕ) → In q (map (far false) (map (transition_of L.parts) transitions.now))
+        → q < length marks.old }
+    ensures { OnOk result (IsFollowed (map (far false) (map (transition_of L.parts)
+        transitions.now)) marks.old waiting.old.items marks.new waiting.new.items) }
+{
+    for transition in transitions {
+        visit(transition.to, marks, waiting)?;
+    }
+    Ok(())
+}
+
+/// Marks the states from which transitions lead to a state, as `follow` does.
+fn follow_back<L: LabelSet, S: Semiring>(
+    aut: &Automaton<L, S>,
+    links: &Links,
+    state: u32,
+    marks: &mut [bool],
+    waiting: &mut Vec<u32>,
+) -> Result<(), AllocError>
+    requires state { state < aut.now.automaton.states }
+    requires count { length marks.old ≡ aut.now.automaton.states }
+    requires links { AreLinks aut.now.automaton.transitions aut.now.automaton.states
+        links.now.last.items links.now.before.items }
+    ensures { OnOk result (IsFollowed (linked true aut.now.automaton.transitions state) marks.old
+        waiting.old.items marks.new waiting.new.items) }
+{
+    automata_are_valid(aut);
+    let transitions = aut.transitions();
+    let mut link = links.last[state as usize];
+    'chain: while link > 0 {
+        let at = link - 1;
+        let next = links.before[at];
+        visit(transitions[at].from, marks, waiting)?;
+        link = next;
+    }
+    Ok(())
+}
+
+/// Marks a state, and lets it wait if it was not marked.
+fn visit(state: u32, marks: &mut [bool], waiting: &mut Vec<u32>) -> Result<(), AllocError>
+    requires { state < length marks.old }
+    ensures { OnOk result (IsFollowed (state ∷ []) marks.old waiting.old.items
         marks.new waiting.new.items) }
 {
-    for state in next {
-        if marks[*state as usize] {
-            continue;
-        }
-        marks[*state as usize] = true;
-        waiting.push(*state)?;
+    if marks[state as usize] {
+        return Ok(());
     }
+    marks[state as usize] = true;
+    waiting.push(state)?;
     Ok(())
 }

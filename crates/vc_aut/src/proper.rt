@@ -58,7 +58,7 @@ impl<L: LabelSet, S: Semiring> Automaton<L, S> {
     }
 
     /// Whether a transition has a label that is empty on all tapes.
-    fn has_empty_label(&self) -> bool
+    pub(crate) fn has_empty_label(&self) -> bool
         ensures { IsTrue result ↔ HasEmptyLabel self.now.automaton }
     {
         self.transitions.iter().any(|t| L::is_empty(&t.label))

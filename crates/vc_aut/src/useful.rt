@@ -57,6 +57,9 @@ fn useful_part<L: LabelSet, S: Semiring>(
     words_are_ordered();
     automata_are_valid(aut);
     let kept = useful(alloc, aut)?;
+    if kept.states.len() == aut.states() as usize {
+        return aut.copy(alloc);
+    }
     let initial_weights = chosen::<S>(alloc, aut.initial_weights(), &kept.states)?;
     let final_weights = chosen::<S>(alloc, aut.final_weights(), &kept.states)?;
     let transitions = between(alloc, aut, &kept)?;

@@ -60,6 +60,15 @@ module _ {V : Type 0} {R : WeightSet V} (L : SemiringLaws R) (tapes : ℕ) (A : 
       plain i true t e = ap (λ b. cond b (cond (same_triple (i, t.label, t.to) d) t.weight R.zero) R.zero) e
       plain i false t e = ap (λ b. cond b (cond (same_triple (i, t.label, t.to) d) t.weight R.zero) R.zero) e
 
+  pub own_closing : IsClosing R A A (closure R A)
+  own_closing =
+      record {
+        states = refl;
+        initial = refl;
+        final = λ i l. sym (acts_as_one i (final_weight R A) l);
+        transitions = record { triples = G.triples; weight = G.weight; sums = λ d. sym (own_weight d) };
+      }
+
   pub unchanged : (P : Automaton V) → IsAutomaton R tapes P → AreInOrder A.transitions → AreInOrder P.transitions → IsClosing R A P (closure R A) → P ≡ A
   unchanged P H a p C =
       let own : IsGathered R A.transitions A.transitions = record { triples = G.triples; weight = G.weight; sums = λ d. refl } in

@@ -47,12 +47,35 @@ pub fn proper<L: LabelSet, S: Semiring>(
 {
     automata_are_valid(aut);
     closings_keep_futures::<S::Value>();
-    let proper = match proper_of(alloc, aut) {
+    let proper = match own_or_closed(alloc, aut) {
         Ok(proper) => proper,
         Err(fault) => return Err(fault),
     };
     proper_automata_are_proper(&proper);
     Ok(proper)
+}
+
+/// A copy of the automaton where no label is empty, and else the one that the closure makes.
+fn own_or_closed<L: LabelSet, S: Semiring>(
+    alloc: Global,
+    aut: &Automaton<L, S>,
+) -> Result<Proper<L, S>, ProperFault<L, S>>
+    ensures sets { IfOk result (λ p. p.sets ≡ aut.now.sets) }
+    ensures closing { IfOk result (λ p. IsClosing S.set aut.now.automaton p.automaton (closure S.set
+        aut.now.automaton)) }
+    ensures allowed { OnOk result (IsAllowed S.ABSORBS (length aut.now.sets) aut.now.automaton) }
+    ensures fault { IfErr result (IsCause L.parts S.set S.ABSORBS (length aut.now.sets)
+        aut.now.automaton) }
+{
+    automata_are_valid(aut);
+    let own = match aut.to_proper(alloc) {
+        Ok(own) => own,
+        Err(error) => return Err(ProperFault::Memory(error)),
+    };
+    if let Some(proper) = own {
+        return Ok(proper);
+    }
+    proper_of(alloc, aut)
 }
 
 /// The automaton that the closure makes.

@@ -1,34 +1,28 @@
-use Rattle.std.proofs.Common.{◌<◌, ◌++◌, ◌∷◌, [], length, set, true, slice_index_or, take, sym, subst}
-use Rattle.std.proofs.lemmas.List.{take_more}
-use Rattle.vc_aut.specs.Links.{IsFollowed}
-use Rattle.vc_aut.proofs.Reached.{In-read, followed_new, followed_none, followed_seen}
+use Rattle.std.proofs.Common.{List, Bool, map, false, sym, subst, ◌<◌}
+use Rattle.std.specs.Prelude.{OnOk}
+use Rattle.vc_model.specs.Automata.{Transition}
+use Rattle.vc_model.specs.Lists.{In}
+use Rattle.vc_aut.specs.Links.{IsFollowed, far, linked}
+use Rattle.vc_aut.proofs.Reached.{linked-In}
 use Rattle.vc_aut.proofs.links.follow.Goals as goal
 
-pub loop-state-init : goal.loop-state-init
-loop-state-init c = followed_none c.args.marks.now c.args.waiting.now.items
+pub follow_back-requires-clause-links : goal.follow_back-requires-clause-links
+follow_back-requires-clause-links g c = c.requires.links c.if-back.true
 
-pub bounds-marks-state : goal.bounds-marks-state
-bounds-marks-state c =
-    let s = slice_index_or c.args.next.now c.loop-state.state-index 0 in
-    subst (λ n. s < n) (sym c.loop-state.invariant.same) (c.requires s (In-read c.args.next.now c.loop-state.state-index 0 c.loop-state-test.true))
+pub returns-then-back : goal.returns-then-back
+returns-then-back g c =
+    subst (λ (b : Bool). OnOk c.follow_back.result (IsFollowed (linked b c.args.aut.now.automaton.transitions c.args.state) c.args.marks.now c.args.waiting.now.items c.follow_back.new.marks c.follow_back.new.waiting.items))
+    (sym c.if-back.true) c.follow_back.ensures
 
-pub bounds-marks-state-in-loop-state : goal.bounds-marks-state-in-loop-state
-bounds-marks-state-in-loop-state c =
-    let s = slice_index_or c.args.next.now c.loop-state.state-index 0 in
-    subst (λ n. s < n) (sym c.loop-state.invariant.same) (c.requires s (In-read c.args.next.now c.loop-state.state-index 0 c.loop-state-test.true))
+pub follow_on-requires : goal.follow_on-requires
+follow_on-requires g c q i =
+    let A = c.args.aut.now.automaton in
+    let j : In q (linked false A.transitions c.args.state) = subst (λ (us : List (Transition g.row.S-Value.Denot)). In q (map (far false) us)) c.transitions_from.ensures i in
+    let t = linked-In false A.transitions c.args.state q j in
+    subst (λ n. q < n) (sym c.requires.count) (subst (λ k. k < A.states) (sym t.3) (c.automata_are_valid.ensures.automaton.to t.0 t.1))
 
-pub loop-state-preserved-then-marks-state : goal.loop-state-preserved-then-marks-state
-loop-state-preserved-then-marks-state c =
-    let i = c.loop-state.state-index in
-    let s = slice_index_or c.args.next.now i 0 in
-    subst (λ xs. IsFollowed xs c.args.marks.now c.args.waiting.now.items c.loop-state.marks c.loop-state.waiting.items) (sym (take_more c.args.next.now i 0 c.loop-state-test.true))
-    (followed_seen (take i c.args.next.now) c.args.marks.now c.args.waiting.now.items c.loop-state.marks c.loop-state.waiting.items s c.loop-state.invariant c.if-marks-state.true)
-
-pub loop-state-preserved : goal.loop-state-preserved
-loop-state-preserved c =
-    let i = c.loop-state.state-index in
-    let s = slice_index_or c.args.next.now i 0 in
-    let l : s < length c.loop-state.marks = subst (λ n. s < n) (sym c.loop-state.invariant.same) (c.requires s (In-read c.args.next.now i 0 c.loop-state-test.true)) in
-    subst (λ xs. IsFollowed xs c.args.marks.now c.args.waiting.now.items (set c.loop-state.marks s true) c.push.new.self.items) (sym (take_more c.args.next.now i 0 c.loop-state-test.true))
-    (subst (λ ys. IsFollowed (take i c.args.next.now ++ s ∷ []) c.args.marks.now c.args.waiting.now.items (set c.loop-state.marks s true) ys) (sym c.in_ok-push.ensures.items)
-    (followed_new (take i c.args.next.now) c.args.marks.now c.args.waiting.now.items c.loop-state.marks c.loop-state.waiting.items s c.loop-state.invariant c.if-marks-state.false l))
+pub returns : goal.returns
+returns g c =
+    subst (λ (b : Bool). OnOk c.follow_on.result (IsFollowed (linked b c.args.aut.now.automaton.transitions c.args.state) c.args.marks.now c.args.waiting.now.items c.follow_on.new.marks c.follow_on.new.waiting.items))
+    (sym c.if-back.false)
+    (subst (λ (us : List (Transition g.row.S-Value.Denot)). OnOk c.follow_on.result (IsFollowed (map (far false) us) c.args.marks.now c.args.waiting.now.items c.follow_on.new.marks c.follow_on.new.waiting.items)) c.transitions_from.ensures c.follow_on.ensures)

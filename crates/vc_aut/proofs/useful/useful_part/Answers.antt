@@ -1,4 +1,4 @@
-use Rattle.std.proofs.Common.{◌≡◌, ◌<◌, ℕ, List, length, map, get_or, sym, ap, ◌∙◌, subst}
+use Rattle.std.proofs.Common.{rules, ◌≡◌, ◌<◌, ℕ, List, length, map, get_or, sym, ap, ◌∙◌, subst}
 use Rattle.std.proofs.lemmas.List.{length-map}
 use Rattle.std.proofs.lemmas.Result.{IfOk-weaker}
 use Rattle.vc_label.specs.declared.tape_set.TapeSet.{TapeSet}
@@ -9,7 +9,18 @@ use Rattle.vc_aut.specs.Stored.{automaton_of, transition_of}
 use Rattle.vc_aut.specs.Labelled.{Labelled}
 use Rattle.vc_aut.specs.Validity.{IsLabelled}
 use Rattle.vc_aut.proofs.Trimmed.{parts_labelled, trimmed}
+use Rattle.vc_aut.proofs.Whole.{whole}
 use Rattle.vc_aut.proofs.useful.useful_part.Goals as goal
+
+pub returns-then-len-states-clause-trim : goal.returns-then-len-states-clause-trim
+returns-then-len-states-clause-trim g c =
+    let R = g.S.Semiring.set in
+    let A = c.args.aut.now.automaton in
+    let kept = c.in_ok-kept.kept.states.items in
+    let n : c.len.result ≡ length kept = search rules in
+    let all : length kept ≡ A.states = sym n ∙ c.if-len-states.true ∙ c.states.ensures in
+    let t = whole R (length c.args.aut.now.sets) A c.automata_are_valid.ensures.automaton kept c.in_ok-kept.kept.places.items c.in_ok-kept.ensures all in
+    IfOk-weaker c.copy.result _ _ (λ a h. (kept, subst (λ (x : Labelled g.row.S-Value.Denot). IsTrim R A x.automaton kept) (sym h) t)) c.copy.ensures
 
 pub chosen-requires : goal.chosen-requires
 chosen-requires g c q i =
