@@ -9,11 +9,12 @@ use Rattle.std.proofs.lemmas.Bool.Decides.{nat_tests}
 use Rattle.std.proofs.lemmas.List.Elements.{All-cons, All-nil, All-drop, All-push, All-take, All-weaker}
 use Rattle.vc_model.specs.Automata.{Transition, Automaton}
 use Rattle.vc_model.specs.Lists.{In}
-use Rattle.vc_model.specs.Members.{In-filter_from}
+use Rattle.vc_model.specs.Members.{In-filter_from, In-flat_map_from}
 use Rattle.vc_model.specs.Words.{Word}
+use Rattle.vc_eval.specs.Forward.{by_source}
 use Rattle.vc_eval.specs.Runs.{LabelRun, IsLabelRun, IsLabelOf, AreRunsOver, run_moves}
 use Rattle.vc_eval.proofs.Pushes.{All-item}
-use Rattle.vc_eval.proofs.Sources.{All_of}
+use Rattle.vc_eval.proofs.Sources.{All_of, In_all, In-by_source}
 
 -- a run of labels with more behind them
 wider : {V : Type 0} (words more : List Word) (r : LabelRun V) → IsLabelRun words r → IsLabelRun (words ++ more) r
@@ -39,6 +40,19 @@ more_runs {V} A words rs r k i s = record {
   states = All-push (λ (r : LabelRun V). r.from < A.states) rs r k.states s;
   labels = k.labels;
 }
+
+-- each label has as many parts as those of the automaton
+pub label_lengths : {V : Type 0} (A : Automaton V) (n : ℕ) (words : List Word) (rs : List (LabelRun V)) → AreRunsOver A words rs → ((u : Transition V) → In u A.transitions → length u.label ≡ n) → All (λ w. length w ≡ n) words
+label_lengths A n words rs k h = λ i d l. let o = k.labels i d l in sym (ap length o.2) ∙ h o.0 o.1
+
+-- the label of a transition is among them
+pub label_among : {V : Type 0} (A : Automaton V) (words : List Word) (rs : List (LabelRun V)) → AreRunsOver A words rs → run_moves rs ≡ by_source A → (u : Transition V) → In u A.transitions → u.from < A.states
+    → (k : ℕ) × (k < length words) × (u.label ≡ get_or words k [])
+label_among {V} A words rs over all u i s =
+    let p = In-flat_map_from (λ (r : LabelRun V). r.transitions) u rs (subst (In u) (sym all) (In-by_source A u i s)) in
+    let r = p.0 in
+    let k = In_all (IsLabelRun words) rs over.runs r p.1 in
+    (r.number, k.number, In_all (λ u. u.label ≡ get_or words r.number []) r.transitions k.label u p.2)
 
 -- a transition of the automaton from a state
 abbrev pub IsFrom : {V : Type 0} → Automaton V → ℕ → Transition V → Type 0

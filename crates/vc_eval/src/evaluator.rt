@@ -33,7 +33,8 @@ impl<'p, L: LabelSet, S: Semiring> Model for Evaluator<'p, L, S> {
     ghost use Rattle.vc_label.specs.contracts.tape_set.TapeSet.{the_row};
     ghost use Rattle.std.specs.Prelude.{map};
     ghost use Rattle.vc_eval.specs.Ready.{IsReady};
-    ghost use Rattle.vc_eval.specs.Runs.{run_of, words_of};
+    ghost use Rattle.vc_eval.specs.Runs.{run_of};
+    ghost use Rattle.vc_label.specs.Borrowed.{word_of};
 
     ghost Value = { Labelled S.Value };
 
@@ -41,7 +42,7 @@ impl<'p, L: LabelSet, S: Semiring> Model for Evaluator<'p, L, S> {
 
     ghost view = { λ e. e.automaton.now };
 
-    ghost invariant = { λ e. IsReady S.set e.automaton.now e.single (words_of L.parts e.runs.labels.items) (map (run_of L.parts) e.runs.runs.items) e.origins.items e.rows.items e.marks.items };
+    ghost invariant = { λ e. IsReady S.set e.automaton.now e.single (map word_of e.runs.labels.items) (map (run_of L.parts) e.runs.runs.items) e.origins.items e.rows.items e.marks.items };
 }
 
 impl<'p, L: LabelSet, S: Semiring> Evaluator<'p, L, S> {

@@ -6,7 +6,7 @@ ghost use Rattle.vc_aut.specs.Stored.{transition_of};
 ghost use Rattle.vc_eval.specs.Forward.{by_source};
 ghost use Rattle.vc_eval.specs.LetterMoves.{IsMoveInto};
 ghost use Rattle.vc_eval.specs.Moves.{AreMovesHere, entry, moved, move_steps, moved_once, once_steps, source};
-ghost use Rattle.vc_eval.specs.Runs.{AreRunsOver, IsLabelHere, IsZeroRow, at_cell, origin, run_cell, run_moves, run_of, run_steps, runs_moved, words_of};
+ghost use Rattle.vc_eval.specs.Runs.{AreRunsOver, IsLabelHere, IsZeroRow, at_cell, origin, run_cell, run_moves, run_of, run_steps, runs_moved};
 ghost use Rattle.vc_label.specs.Borrowed.{word_of};
 ghost use Rattle.vc_model.specs.WeightSet.{InRange};
 ghost use Rattle.vc_ring.specs.Steps.{outcome};
@@ -21,7 +21,7 @@ use vc_ring::{Overflow, Semiring};
 /// Adds to the row that begins at a cell what the transitions bring whose labels end the prefix.
 pub(crate) fn gather_row<L: LabelSet, S: Semiring>(
     aut: &Automaton<L, S>,
-    labels: &[&L::Label],
+    labels: &[Word<'_>],
     runs: &[Run<'_, L, S>],
     word: Word<'_>,
     front: Word<'_>,
@@ -31,7 +31,7 @@ pub(crate) fn gather_row<L: LabelSet, S: Semiring>(
 ) -> Result<(), Overflow<S::Value>>
     requires tapes { length (word_of word) ≡ length (word_of front) }
     requires over { AreRunsOver aut.now.automaton
-        (words_of L.parts labels.now) (map (run_of L.parts) runs.now) }
+        (map word_of labels.now) (map (run_of L.parts) runs.now) }
     requires all { run_moves (map (run_of L.parts) runs.now) ≡ by_source aut.now.automaton }
     requires origins { length origins.old ≡ length labels.now }
     requires at { at ≤ length rows.old }
@@ -46,7 +46,7 @@ pub(crate) fn gather_row<L: LabelSet, S: Semiring>(
     ensures rows_in { InRange S.set rows.new }
 {
     let states = aut.states() as usize;
-    if find_origins::<L, S>(labels, word, states, front, at, origins, rows) {
+    if find_origins::<S>(labels, word, states, front, at, origins, rows) {
         return gather_runs::<L, S>(runs, origins, at, rows);
     }
     Ok(())
@@ -54,8 +54,8 @@ pub(crate) fn gather_row<L: LabelSet, S: Semiring>(
 
 /// Finds for each label where the row begins that it leads back to from the prefix, none where it
 /// does not end it. Whether one of these rows may have an entry that is not zero.
-fn find_origins<L: LabelSet, S: Semiring>(
-    labels: &[&L::Label],
+fn find_origins<S: Semiring>(
+    labels: &[Word<'_>],
     word: Word<'_>,
     states: usize,
     front: Word<'_>,
@@ -66,17 +66,17 @@ fn find_origins<L: LabelSet, S: Semiring>(
     requires tapes { length (word_of word) ≡ length (word_of front) }
     requires at { at ≤ length rows.now }
     requires here { All (IsLabelHere (word_of word) states (word_of front) at (length rows.now))
-        (words_of L.parts labels.now) }
+        (map word_of labels.now) }
     requires origins { length origins.old ≡ length labels.now }
     ensures origins { (k : ℕ) → k < length labels.now → slice_index_or origins.new k None
         ≡ origin (word_of word.entry) states (word_of front.entry) at (length rows.now)
-        (slice_index_or (words_of L.parts labels.now) k []) }
+        (slice_index_or (map word_of labels.now) k []) }
     ensures idle { result ≡ false → (k : ℕ) → k < length labels.now
         → IsZeroRow S.set states rows.now (slice_index_or origins.new k None) }
 {
     let mut busy = false;
     for number in 0..labels.len() {
-        let origin = origin_of::<L>(labels[number], word, states, front, at, rows.len());
+        let origin = origin_of(labels[number], word, states, front, at, rows.len());
         origins[number] = origin;
         busy = is_busy::<S>(busy, rows, origin, states);
     }
@@ -84,8 +84,8 @@ fn find_origins<L: LabelSet, S: Semiring>(
 }
 
 /// Where the row begins that a label leads back to from the prefix, if it ends it.
-fn origin_of<L: LabelSet>(
-    label: &L::Label,
+fn origin_of(
+    label: Word<'_>,
     word: Word<'_>,
     states: usize,
     front: Word<'_>,
@@ -94,14 +94,14 @@ fn origin_of<L: LabelSet>(
 ) -> Option<usize>
     requires tapes { length (word_of word) ≡ length (word_of front) }
     requires at { at ≤ cells }
-    requires here { IsLabelHere (word_of word) states (word_of front) at cells (L.parts label.now) }
+    requires here { IsLabelHere (word_of word) states (word_of front) at cells (word_of label) }
     ensures { result ≡ origin (word_of word.entry) states (word_of front.entry) at cells
-        (L.parts label.now) }
+        (word_of label.entry) }
 {
-    if !is_end::<L>(label, front) {
+    if !is_end(label, front) {
         return None;
     }
-    let back = place::<L>(label, word) * states;
+    let back = place(label, word) * states;
     Some(row_before(at, back, cells))
 }
 

@@ -7,7 +7,7 @@ ghost use Rattle.vc_eval.specs.Marks.{AreMarked};
 ghost use Rattle.vc_eval.specs.Moves.{entry, earlier, next_row, source, AreMovesHere, moved, move_steps, cleared, ends_of, in_turn};
 ghost use Rattle.vc_eval.specs.Positions.{positions};
 ghost use Rattle.vc_eval.specs.Ready.{HasRoom};
-ghost use Rattle.vc_eval.specs.Runs.{AreRunsOver, run_moves, run_of, words_of};
+ghost use Rattle.vc_eval.specs.Runs.{AreRunsOver, run_moves, run_of};
 ghost use Rattle.vc_label.specs.Borrowed.{word_of};
 ghost use Rattle.vc_model.specs.Automata.{IsProper, coefficient, initial_weight};
 ghost use Rattle.vc_model.specs.Letters.{HasLetters};
@@ -47,7 +47,7 @@ pub(crate) fn forward<L: LabelSet, S: Semiring>(
     requires positions { count ≡ positions (word_of word) }
     requires room { HasRoom aut.now.automaton (word_of word) (length rows.old) }
     requires over { single ≡ false → AreRunsOver aut.now.automaton
-        (words_of L.parts runs.now.labels.items) (map (run_of L.parts) runs.now.runs.items) }
+        (map word_of runs.now.labels.items) (map (run_of L.parts) runs.now.runs.items) }
     requires all { single ≡ false → run_moves (map (run_of L.parts) runs.now.runs.items)
         ≡ by_source aut.now.automaton }
     requires origins { single ≡ false → length origins.old ≡ length runs.now.labels.items }
@@ -110,7 +110,7 @@ fn fill<L: LabelSet, S: Semiring>(
     requires letters { IsTrue single → AreLettersHere aut.now.automaton (word_of front) at (length rows.old) }
     requires marks { IsTrue single → length rows.old ≤ 64 * length marks.old }
     requires over { single ≡ false → AreRunsOver aut.now.automaton
-        (words_of L.parts runs.now.labels.items) (map (run_of L.parts) runs.now.runs.items) }
+        (map word_of runs.now.labels.items) (map (run_of L.parts) runs.now.runs.items) }
     requires all { single ≡ false → run_moves (map (run_of L.parts) runs.now.runs.items)
         ≡ by_source aut.now.automaton }
     requires origins { single ≡ false → length origins.old ≡ length runs.now.labels.items }

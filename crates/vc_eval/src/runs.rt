@@ -4,10 +4,12 @@ ghost use Rattle.std.specs.Prelude.{◌≡◌, ◌⊎◌, ◌<◌, ◌≤◌, �
 ghost use Rattle.vc_aut.specs.Stored.{transition_of};
 ghost use Rattle.vc_eval.specs.Forward.{by_source};
 ghost use Rattle.vc_eval.specs.Runs.{AreRunsOver, label_run, run_moves, run_of, words_of};
+ghost use Rattle.vc_label.specs.Borrowed.{word_of};
 
+use crate::words::parts;
 use std::alloc::{AllocError, Global};
 use vc_aut::{Automaton, Transition, automata_are_valid};
-use vc_label::LabelSet;
+use vc_label::{LabelSet, Word};
 use vc_ring::Semiring;
 
 /// So many labels are looked through for one. If it is not among them, it has a further number.
@@ -24,7 +26,7 @@ pub(crate) struct Run<'a, L: LabelSet, S: Semiring> {
 /// All transitions of an automaton, run by run, and the labels by their numbers.
 #[derive(Drop)]
 pub(crate) struct Runs<'a, L: LabelSet, S: Semiring> {
-    pub(crate) labels: Vec<&'a L::Label>,
+    pub(crate) labels: Vec<Word<'a>>,
     pub(crate) runs: Vec<Run<'a, L, S>>,
 }
 
@@ -35,7 +37,7 @@ pub(crate) fn runs_unless<'a, L: LabelSet, S: Semiring>(
     aut: &'a Automaton<L, S>,
 ) -> Result<Runs<'a, L, S>, AllocError>
     ensures over { IfOk result (λ r. single ≡ false → AreRunsOver aut.now.automaton
-        (words_of L.parts r.labels.items) (map (run_of L.parts) r.runs.items)) }
+        (map word_of r.labels.items) (map (run_of L.parts) r.runs.items)) }
     ensures moves { IfOk result (λ r. single ≡ false → run_moves (map (run_of L.parts) r.runs.items)
         ≡ by_source aut.now.automaton) }
 {
@@ -54,16 +56,34 @@ pub(crate) fn runs_of<'a, L: LabelSet, S: Semiring>(
     aut: &'a Automaton<L, S>,
 ) -> Result<Runs<'a, L, S>, AllocError>
     ensures over { IfOk result (λ r. AreRunsOver aut.now.automaton
-        (words_of L.parts r.labels.items) (map (run_of L.parts) r.runs.items)) }
+        (map word_of r.labels.items) (map (run_of L.parts) r.runs.items)) }
     ensures moves { IfOk result (λ r. run_moves (map (run_of L.parts) r.runs.items)
         ≡ by_source aut.now.automaton) }
 {
+    automata_are_valid(aut);
     let mut labels = Vec::new(alloc);
     let mut runs = Vec::new(alloc);
     for s in 0..aut.states() {
         push_runs(aut, s, &mut labels, &mut runs)?;
     }
+    let labels = label_words::<L>(alloc, &labels, aut.labels().tapes())?;
     Ok(Runs { labels, runs })
+}
+
+/// Labels of so many parts as words.
+fn label_words<'a, L: LabelSet>(
+    alloc: Global,
+    labels: &[&'a L::Label],
+    tapes: usize,
+) -> Result<Vec<Word<'a>>, AllocError>
+    requires { All (λ w. length w ≡ tapes) (words_of L.parts labels.now) }
+    ensures { IfOk result (λ ws. map word_of ws.items ≡ words_of L.parts labels.now) }
+{
+    let mut words = Vec::new(alloc);
+    for number in 0..labels.len() {
+        words.push(parts::<L>(labels[number], tapes))?;
+    }
+    Ok(words)
 }
 
 /// Appends the runs from a state.

@@ -6,7 +6,7 @@ ghost use Rattle.vc_label.specs.Borrowed.{word_of};
 
 use crate::rows::forward;
 use crate::runs::runs_of;
-use crate::size::{cells_of, past_cells, zeros};
+use crate::size::{cells_of, past_cells, rows_wanted, zeros};
 use std::alloc::{AllocError, Global};
 use vc_aut::{Proper, proper_automata_are_proper};
 use vc_label::{LabelSet, Word};
@@ -33,10 +33,12 @@ pub fn eval_tuple<L: LabelSet, S: Semiring>(
     let Some(cells) = cells_of(states, word) else {
         return Err(past_cells::<S>());
     };
-    let Ok(mut rows) = zeros::<S>(alloc, cells) else {
+    let positions = cells / states as usize;
+    let Ok(runs) = runs_of(alloc, aut.automaton()) else {
         return Err(MakeFault::Memory(AllocError));
     };
-    let Ok(runs) = runs_of(alloc, aut.automaton()) else {
+    let wanted = rows_wanted(&runs.labels, word, positions);
+    let Ok(mut rows) = zeros::<S>(alloc, wanted * states as usize) else {
         return Err(MakeFault::Memory(AllocError));
     };
     let Ok(mut origins) = Vec::from_elem(alloc, None, runs.labels.len()) else {
@@ -45,7 +47,7 @@ pub fn eval_tuple<L: LabelSet, S: Semiring>(
     match forward(
         aut.automaton(),
         word,
-        cells / states as usize,
+        positions,
         false,
         &runs,
         &mut origins,

@@ -1,8 +1,8 @@
-use Rattle.std.proofs.Common.{◌≡◌, ◌<◌, ◌≤◌, ◌+◌, ◌==◌, ◌++◌, [], filter, map, ap, sym, ◌∙◌, arith, append_assoc, rules}
+use Rattle.std.proofs.Common.{◌≡◌, ◌<◌, ◌≤◌, ◌+◌, ◌==◌, ◌++◌, [], All, filter, length, map, ap, sym, ◌∙◌, subst, arith, append_assoc, rules}
 use Rattle.std.proofs.lemmas.List.{append-nil}
 use Rattle.vc_eval.specs.Forward.{from_states}
-use Rattle.vc_eval.specs.Runs.{run_moves, run_of}
-use Rattle.vc_eval.proofs.LabelRuns.{no_runs}
+use Rattle.vc_eval.specs.Runs.{AreRunsOver, run_moves, run_of, words_of}
+use Rattle.vc_eval.proofs.LabelRuns.{label_lengths, no_runs}
 use Rattle.vc_eval.proofs.Sources.{next_source, no_states}
 use Rattle.vc_eval.proofs.runs.runs_of.Goals as goal
 
@@ -23,6 +23,18 @@ loop-s-preserved g c =
           ∙ ap (λ us. before ++ us) (sym (next_source A.transitions s A.states (omega arith)))
           ∙ c.loop-s.invariant.moves;
     }
+
+pub label_words-labels-requires : goal.label_words-labels-requires
+label_words-labels-requires g c =
+    let n = length c.args.aut.now.sets in
+    subst (λ ls. All (λ w. length w ≡ c.tapes.result) (words_of g.L.LabelSet.parts ls)) (sym c.deref.ensures.value)
+    (subst (λ k. All (λ w. length w ≡ k) (words_of g.L.LabelSet.parts c.loop-s.labels.items)) (sym (c.tapes.ensures.value ∙ ap length c.labels.ensures))
+    (label_lengths c.args.aut.now.automaton n (words_of g.L.LabelSet.parts c.loop-s.labels.items) (map (run_of g.L.LabelSet.parts) c.loop-s.runs.items) c.loop-s.invariant.over c.automata_are_valid.ensures.automaton.label))
+
+pub returns-clause-over : goal.returns-clause-over
+returns-clause-over g c =
+    let words = c.in_ok-labels.ensures ∙ ap (words_of g.L.LabelSet.parts) c.deref.ensures.value in
+    subst (λ ws. AreRunsOver c.args.aut.now.automaton ws (map (run_of g.L.LabelSet.parts) c.loop-s.runs.items)) (sym words) c.loop-s.invariant.over
 
 pub returns-clause-moves : goal.returns-clause-moves
 returns-clause-moves g c =

@@ -20,8 +20,4 @@ pub forward-requires-clause-room : goal.forward-requires-clause-room
 forward-requires-clause-room g c =
     let A = c.args.aut.now.automaton in
     let w = word_of c.args.word in
-    let n = length c.deref_mut.result.now in
-    let e : c.in-Some.cells ≡ A.states * positions w = search rules in
-    let d : n ≡ c.in-Some.cells = search rules in
-    subst (λ (X : Labelled g.row.S-Value.Denot). HasRoom X.automaton w n) (sym c.automaton-3.ensures)
-    (tuple_room A w n c.in-Some.cells (positions_some w) e d)
+    ?
