@@ -23,7 +23,8 @@ loop-rest-preserved g c =
     let s = c.args.s in
     let i = c.loop-rest.invariant in
     let rest = c.loop-rest.rest.now in
-    let x = c.index-rest-0.result in
+    let x = get_or rest 0 c.index-rest-0.result in
+    let is = ap (get_or rest 0) c.index-rest-0.is in
     let l = parts x.label in
     let width = c.front_with-width.result in
     let k = c.in_ok-number.number in
@@ -33,8 +34,8 @@ loop-rest-preserved g c =
     let us = map f (take width rest) in
     let r = label_run s k us in
     let some = not_none (length rest) c.is_empty.result c.is_empty.ensures c.loop-rest-test.true in
-    let first = first_is f (IsFrom A s) rest x some c.index-rest-0.is i.from in
-    let labels = more_labels A old new l rs i.over (f x, (first.0, refl)) c.in_ok-number.ensures.labels in
+    let first = first_is f (IsFrom A s) rest x some is i.from in
+    let labels = more_labels A old new l rs i.over (f x, first.0, refl) c.in_ok-number.ensures.labels in
     let same : All (λ u. u.label ≡ l) us = subst (All (λ u. u.label ≡ l)) (take-map f width rest) c.front_with-width.ensures.same in
     let run : IsLabelRun new r = record {
       number = search rules;
@@ -50,7 +51,8 @@ loop-rest-preserved g c =
 pub front_with-width-requires-clause-first : goal.front_with-width-requires-clause-first
 front_with-width-requires-clause-first g c =
     let some = not_none (length c.loop-rest.rest.now) c.is_empty.result c.is_empty.ensures c.loop-rest-test.true in
-    first_label (transition_of g.L.LabelSet.parts) c.loop-rest.rest.now c.index-rest-0.result some c.index-rest-0.is
+    let rest = c.loop-rest.rest.now in
+    first_label (transition_of g.L.LabelSet.parts) rest (get_or rest 0 c.index-rest-0.result) some (ap (get_or rest 0) c.index-rest-0.is)
 
 pub loop-rest-smaller : goal.loop-rest-smaller
 loop-rest-smaller g c =

@@ -13,7 +13,7 @@ overflow_add-place-in-loop-tape c =
     let next : ℕ = n * (length (get_or w i []) + 1) + length (get_or u i []) in
     let e = place_step w u i n (omega arith) c.requires.tapes in
     let m = place_least next (drop (i + 1) w) (drop (i + 1) u) in
-    let a : n * (length c.tape.result.now + 1) + length c.tape-2.result.now ≡ next = ap₂ (λ (x y : ℕ). n * (x + 1) + y) (ap length c.tape.ensures.value) (ap length c.tape-2.ensures.value) in
+    let a : n * (length c.tape.result.now + 1) + length c.tape-in-loop-tape.result.now ≡ next = ap₂ (λ (x y : ℕ). n * (x + 1) + y) (ap length c.tape.ensures.value) (ap length c.tape-in-loop-tape.ensures.value) in
     let s = c.requires.small in
     let v : place_onto n (drop i w) (drop i u) ≡ place_of w u = c.loop-tape.invariant in
     omega (arith, e, m, a, s, v)
