@@ -8,10 +8,10 @@ use Rattle.std.proofs.lemmas.List.Concat.{flat_map-append}
 use Rattle.std.proofs.lemmas.Bool.Decides.{nat_tests}
 use Rattle.std.proofs.lemmas.List.Elements.{All-cons, All-nil, All-drop, All-push, All-take, All-weaker}
 use Rattle.vc_model.specs.Automata.{Transition, Automaton}
-use Rattle.vc_model.specs.Lists.{In}
+use Rattle.vc_model.specs.Lists.{In, up_from}
 use Rattle.vc_model.specs.Members.{In-filter_from, In-flat_map_from}
 use Rattle.vc_model.specs.Words.{Word}
-use Rattle.vc_eval.specs.Forward.{by_source}
+use Rattle.vc_eval.specs.Forward.{by_source, from_states}
 use Rattle.vc_eval.specs.Runs.{LabelRun, IsLabelRun, IsLabelOf, AreRunsOver, run_moves}
 use Rattle.vc_eval.proofs.Pushes.{All-item}
 use Rattle.vc_eval.proofs.Sources.{All_of, In_all, In-by_source}
@@ -74,6 +74,10 @@ not_none (suc n) b e f = omega arith
 pub is_none : (n : ℕ) (b : Bool) → b ≡ (n == 0) → b ≡ true → n ≡ 0
 is_none zero b e f = refl
 is_none (suc n) b e f = let g : (suc n == 0) ≡ false = grind (arith, nat_tests) in absurd (cc)
+
+-- before the first state all transitions are left
+pub first_moves : {V : Type 0} (A : Automaton V) → from_states A.transitions 0 A.states ≡ by_source A
+first_moves A = let e : A.states - 0 ≡ A.states = omega arith in ap (λ (k : ℕ). flat_map (λ p. filter (λ u. u.from == p) A.transitions) (up_from 0 k)) e
 
 -- no labels and no runs
 pub no_runs : {V : Type 0} (A : Automaton V) → AreRunsOver A [] []

@@ -66,8 +66,11 @@ pub(crate) fn runs_of<'a, L: LabelSet, S: Semiring>(
     for s in 0..aut.states() {
         push_runs(aut, s, &mut labels, &mut runs)?;
     }
-    let labels = label_words::<L>(alloc, &labels, aut.labels().tapes())?;
-    Ok(Runs { labels, runs })
+    let words = label_words::<L>(alloc, &labels, aut.labels().tapes())?;
+    Ok(Runs {
+        labels: words,
+        runs,
+    })
 }
 
 /// Labels of so many parts as words.

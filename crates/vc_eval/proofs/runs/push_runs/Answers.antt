@@ -1,5 +1,5 @@
-use Rattle.std.proofs.Common.{◌≡◌, ℕ, ◌<◌, ◌≤◌, ◌==◌, ◌++◌, All, filter, get_or, length, map, take, [], refl, ap, sym, ◌∙◌, subst, arith, rules}
-use Rattle.std.proofs.lemmas.List.{take-map}
+use Rattle.std.proofs.Common.{◌≡◌, ℕ, ◌<◌, ◌≤◌, ◌==◌, ◌++◌, All, filter, get_or, length, map, take, [], refl, ap, sym, ◌∙◌, subst, arith}
+use Rattle.std.proofs.lemmas.List.{length-map, take-map}
 use Rattle.std.proofs.lemmas.List.Elements.{All-weaker}
 use Rattle.vc_aut.specs.Stored.{transition_of}
 use Rattle.vc_eval.specs.Runs.{AreRunsOver, IsLabelRun, label_run, run_moves, run_of, words_of}
@@ -37,8 +37,10 @@ loop-rest-preserved g c =
     let first = first_is f (IsFrom A s) rest x some is i.from in
     let labels = more_labels A old new l rs i.over (f x, first.0, refl) c.in_ok-number.ensures.labels in
     let same : All (λ u. u.label ≡ l) us = subst (All (λ u. u.label ≡ l)) (take-map f width rest) c.front_with-width.ensures.same in
+    let number = c.in_ok-number.ensures.number.0 in
+    let long = length-map c.number_of.new.labels.items (λ b. parts b.now) in
     let run : IsLabelRun new r = record {
-      number = search rules;
+      number = omega (arith, number, long);
       from = All-weaker (IsFrom A s) (λ u. u.from ≡ s) (λ u p. p.1) us (front_all f (IsFrom A s) rest width i.from);
       label = subst (λ z. All (λ u. u.label ≡ z) us) (sym c.in_ok-number.ensures.number.1) same;
     } in

@@ -1,15 +1,15 @@
-use Rattle.std.proofs.Common.{◌≡◌, ◌<◌, ◌≤◌, ◌+◌, ◌==◌, ◌++◌, [], All, filter, length, map, ap, sym, ◌∙◌, subst, arith, append_assoc, rules}
+use Rattle.std.proofs.Common.{◌≡◌, ◌<◌, ◌≤◌, ◌+◌, ◌==◌, ◌++◌, [], All, filter, length, map, ap, sym, ◌∙◌, subst, arith, append_assoc}
 use Rattle.std.proofs.lemmas.List.{append-nil}
 use Rattle.vc_eval.specs.Forward.{from_states}
 use Rattle.vc_eval.specs.Runs.{AreRunsOver, run_moves, run_of, words_of}
-use Rattle.vc_eval.proofs.LabelRuns.{label_lengths, no_runs}
+use Rattle.vc_eval.proofs.LabelRuns.{first_moves, label_lengths, no_runs}
 use Rattle.vc_eval.proofs.Sources.{next_source, no_states}
 use Rattle.vc_eval.proofs.runs.runs_of.Goals as goal
 
 pub loop-s-init : goal.loop-s-init
 loop-s-init g c =
     rw (c.new-labels.ensures.items, c.new-runs.ensures.items)
-    (record { over = no_runs c.args.aut.now.automaton; moves = search rules })
+    (record { over = no_runs c.args.aut.now.automaton; moves = first_moves c.args.aut.now.automaton })
 
 pub loop-s-preserved : goal.loop-s-preserved
 loop-s-preserved g c =
@@ -24,8 +24,8 @@ loop-s-preserved g c =
           ∙ c.loop-s.invariant.moves;
     }
 
-pub label_words-labels-requires : goal.label_words-labels-requires
-label_words-labels-requires g c =
+pub label_words-requires : goal.label_words-requires
+label_words-requires g c =
     let n = length c.args.aut.now.sets in
     subst (λ ls. All (λ w. length w ≡ c.tapes.result) (words_of g.L.LabelSet.parts ls)) (sym c.deref.ensures.value)
     (subst (λ k. All (λ w. length w ≡ k) (words_of g.L.LabelSet.parts c.loop-s.labels.items)) (sym (c.tapes.ensures.value ∙ ap length c.labels.ensures))
@@ -33,7 +33,7 @@ label_words-labels-requires g c =
 
 pub returns-clause-over : goal.returns-clause-over
 returns-clause-over g c =
-    let words = c.in_ok-labels.ensures ∙ ap (words_of g.L.LabelSet.parts) c.deref.ensures.value in
+    let words = c.in_ok-words.ensures ∙ ap (words_of g.L.LabelSet.parts) c.deref.ensures.value in
     subst (λ ws. AreRunsOver c.args.aut.now.automaton ws (map (run_of g.L.LabelSet.parts) c.loop-s.runs.items)) (sym words) c.loop-s.invariant.over
 
 pub returns-clause-moves : goal.returns-clause-moves
