@@ -1,8 +1,8 @@
 -- The room of rows.
-use Rattle.std.proofs.Common.{◌≡◌, ◌≢◌, ℕ, ◌<◌, ◌≤◌, ◌+◌, ◌*◌, [], ◌∷◌, None, ap₂, length, get_or, map, drop, refl, sym, ap, ◌∙◌, subst, arith}
+use Rattle.std.proofs.Common.{◌≡◌, ◌≢◌, ℕ, ◌<◌, ◌≤◌, ◌+◌, ◌*◌, ◌/◌, [], ◌∷◌, None, ap₂, length, get_or, map, drop, refl, sym, ap, ◌∙◌, subst, arith}
 use Rattle.std.specs.List.{flat_map}
 use Rattle.std.proofs.lemmas.Grind.{common_steps}
-use Rattle.std.proofs.lemmas.Nat.{mul-le}
+use Rattle.std.proofs.lemmas.Nat.{div-mul-add, mul-le}
 use Rattle.std.proofs.Math.Nat.{mul_comm}
 use Rattle.vc_aut.specs.Labelled.{Labelled}
 use Rattle.vc_model.specs.WeightSet.{WeightSet}
@@ -35,6 +35,13 @@ rows_within states cells positions wanted s e l =
     let m = mul-le wanted states positions states l (omega arith) in
     let c = mul_comm states positions in
     omega (arith, m, c, e)
+
+-- the entries of rows for all positions, divided among them
+pub position_count : (states cells positions : ℕ) → 1 ≤ states → cells ≡ states * positions → cells / states ≡ positions
+position_count states cells positions s e =
+    let c = mul_comm states positions in
+    let d : cells ≡ positions * states + 0 = omega (arith, c, e) in
+    ap (λ (n : ℕ). n / states) d ∙ div-mul-add positions states 0 s
 
 -- the positions are no more than the entries
 pub positions_within : (states cells positions : ℕ) → 1 ≤ states → cells ≡ states * positions → positions ≤ cells
