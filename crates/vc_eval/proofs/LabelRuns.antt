@@ -1,5 +1,5 @@
 -- Runs that are put behind others.
-use Rattle.std.proofs.Common.{◌≡◌, ℕ, Bool, true, false, ◌<◌, ◌≤◌, ◌+◌, ◌-◌, ◌==◌, List, [], ◌∷◌, ◌++◌, All, get_or, filter, length, map, take, drop, refl, sym, ap, ap₂, ◌∙◌, inl, inr, subst, zero, suc, arith, append_assoc}
+use Rattle.std.proofs.Common.{◌≡◌, ℕ, Bool, true, false, ◌<◌, ◌≤◌, ◌-◌, ◌==◌, List, [], ◌∷◌, ◌++◌, All, get_or, filter, length, map, take, drop, refl, sym, ap, ap₂, ◌∙◌, inl, inr, subst, zero, suc, arith, append_assoc}
 use Rattle.std.specs.Prelude.{◌⊎◌}
 use Rattle.std.specs.List.{flat_map}
 use Rattle.std.proofs.lemmas.Bool.{eqb-true}

@@ -1,6 +1,5 @@
 -- Row steps run by run are those by source.
-use Rattle.std.proofs.Common.{◌≡◌, ℕ, ◌<◌, ◌≤◌, ◌+◌, ◌*◌, IsTrue, IfSome, List, [], ◌∷◌, ◌++◌, All, Ok, Err, Bool, true, false, Option, None, Some, cond, set, get_or, drop, length, map, refl, sym, ap, ◌∙◌, inl, inr, subst, arith}
-use Rattle.std.specs.List.{flat_map}
+use Rattle.std.proofs.Common.{◌≡◌, ℕ, ◌<◌, ◌≤◌, ◌+◌, ◌*◌, IfSome, List, [], ◌∷◌, ◌++◌, All, Ok, Err, Bool, true, false, Option, None, Some, cond, set, get_or, drop, length, map, refl, sym, ap, ◌∙◌, inl, inr, subst, arith}
 use Rattle.std.proofs.lemmas.Bool.{cases_lt}
 use Rattle.std.proofs.lemmas.List.{get_or-set_same, get_or-set_other}
 use Rattle.std.proofs.lemmas.List.Elements.{All-head, All-tail}
@@ -14,9 +13,9 @@ use Rattle.vc_ring.specs.Steps.{outcome, fits}
 use Rattle.vc_ring.specs.declared.faults.Overflow.{Overflow}
 use Rattle.vc_eval.specs.Forward.{by_source}
 use Rattle.vc_eval.specs.LetterMoves.{IsMoveInto}
-use Rattle.vc_eval.specs.Moves.{entry, ends, earlier, source, moved, move_steps, moved_once, IsMoveHere, AreMovesHere}
+use Rattle.vc_eval.specs.Moves.{entry, ends, earlier, source, moved, move_steps, moved_once, AreMovesHere}
 use Rattle.vc_eval.specs.Positions.{place_of}
-use Rattle.vc_eval.specs.Runs.{LabelRun, run_moves, IsLabelRun, IsLabelOf, AreRunsOver, cell_in, at_cell, run_cell, runs_moved, run_steps, origin, IsLabelHere, IsZeroRow}
+use Rattle.vc_eval.specs.Runs.{LabelRun, run_moves, IsLabelRun, AreRunsOver, cell_in, at_cell, run_cell, runs_moved, run_steps, origin, IsLabelHere, IsZeroRow}
 use Rattle.vc_eval.proofs.LetterSources.{same_while, IsIdle}
 use Rattle.vc_eval.proofs.Pushes.{next_item}
 use Rattle.vc_eval.proofs.Sources.{All_of, In_all, by_source-In, moved-append, move_steps-append}

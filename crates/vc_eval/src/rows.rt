@@ -129,7 +129,16 @@ fn fill<L: LabelSet, S: Semiring>(
         return push_row(aut, tape[tape.len() - 1], before, at, rows, marks);
     }
     clear::<S>(rows, at, states);
-    gather_row(aut, &runs.labels, &runs.runs, word, front, at, origins, rows)
+    gather_row(
+        aut,
+        &runs.labels,
+        &runs.runs,
+        word,
+        front,
+        at,
+        origins,
+        rows,
+    )
 }
 
 /// Makes each entry of the row of so many states that begins at a cell zero.

@@ -137,10 +137,7 @@ fn push_run<'a, L: LabelSet, S: Semiring>(
 }
 
 /// How many of the transitions in front have the label of the first.
-fn front_with<L: LabelSet, S: Semiring>(
-    label: &L::Label,
-    transitions: &[Transition<L, S>],
-) -> usize
+fn front_with<L: LabelSet, S: Semiring>(label: &L::Label, transitions: &[Transition<L, S>]) -> usize
     requires some { 0 < length transitions.now }
     requires first { All (λ u. u.label ≡ L.parts label.now)
         (take 1 (map (transition_of L.parts) transitions.now)) }

@@ -1,4 +1,4 @@
-use Rattle.std.proofs.Common.{◌≡◌, ℕ, ◌<◌, ◌≤◌, All, IfSome, None, OnOk, [], get_or, refl, length, map, ap, sym, ◌∙◌, subst, arith}
+use Rattle.std.proofs.Common.{◌≡◌, ℕ, ◌<◌, All, None, OnOk, [], get_or, refl, length, map, ap, sym, ◌∙◌, subst, arith}
 use Rattle.std.proofs.lemmas.List.{length-map}
 use Rattle.std.proofs.lemmas.List.Elements.{All-weaker}
 use Rattle.vc_label.specs.Borrowed.{word_of}
@@ -36,8 +36,8 @@ returns-then-find_origins-clause-steps g c =
     let origins = c.find_origins.new.origins in
     let h = source R w A.states f at in
     let found : (k : ℕ) → k < length words → get_or origins k None ≡ origin w A.states f at cells (get_or words k []) = λ k l.
-        c.find_origins.ensures.origins k (omega (arith, l, length-map c.args.labels.now word_of))
-        ∙ ap (λ n. origin w n f at cells (get_or words k [])) c.states-states.ensures in
+    c.find_origins.ensures.origins k (omega (arith, l, length-map c.args.labels.now word_of))
+    ∙ ap (λ n. origin w n f at cells (get_or words k [])) c.states-states.ensures in
     c.gather_runs.ensures.steps
     ∙ ap (λ ss. outcome R ss (tt {0})) ((runs_are R w A.states f at cells words origins found rs c.requires.over.runs rows refl).1
     ∙ ap (λ us. move_steps R h at us rows) c.requires.all)
@@ -56,8 +56,8 @@ returns-then-find_origins-clause-rows g c =
     let origins = c.find_origins.new.origins in
     let h = source R w A.states f at in
     let found : (k : ℕ) → k < length words → get_or origins k None ≡ origin w A.states f at cells (get_or words k []) = λ k l.
-        c.find_origins.ensures.origins k (omega (arith, l, length-map c.args.labels.now word_of))
-        ∙ ap (λ n. origin w n f at cells (get_or words k [])) c.states-states.ensures in
+    c.find_origins.ensures.origins k (omega (arith, l, length-map c.args.labels.now word_of))
+    ∙ ap (λ n. origin w n f at cells (get_or words k [])) c.states-states.ensures in
     subst (λ z. OnOk c.gather_runs.result (c.gather_runs.new.rows ≡ z))
     ((runs_are R w A.states f at cells words origins found rs c.requires.over.runs rows refl).0
     ∙ ap (λ us. moved R h at us rows) c.requires.all)
@@ -83,8 +83,8 @@ gather_runs-requires-clause-cells g c =
     let rs = map (run_of g.L.LabelSet.parts) c.args.runs.now in
     let origins = c.find_origins.new.origins in
     let found : (k : ℕ) → k < length words → get_or origins k None ≡ origin w A.states f at cells (get_or words k []) = λ k l.
-        c.find_origins.ensures.origins k (omega (arith, l, length-map c.args.labels.now word_of))
-        ∙ ap (λ n. origin w n f at cells (get_or words k [])) c.states-states.ensures in
+    c.find_origins.ensures.origins k (omega (arith, l, length-map c.args.labels.now word_of))
+    ∙ ap (λ n. origin w n f at cells (get_or words k [])) c.states-states.ensures in
     run_cells g.met.S.Semiring.laws g.met.S.Semiring.ranges w A f at cells words rs c.requires.over c.requires.all c.requires.moves origins found
 
 pub gather_runs-requires-clause-moves : goal.gather_runs-requires-clause-moves
@@ -108,10 +108,10 @@ returns-clause-steps g c =
     let origins = c.find_origins.new.origins in
     let long = length-map c.args.labels.now word_of in
     let found : (k : ℕ) → k < length words → get_or origins k None ≡ origin w A.states f at cells (get_or words k []) = λ k l.
-        c.find_origins.ensures.origins k (omega (arith, l, long))
-        ∙ ap (λ n. origin w n f at cells (get_or words k [])) c.states-states.ensures in
+    c.find_origins.ensures.origins k (omega (arith, l, long))
+    ∙ ap (λ n. origin w n f at cells (get_or words k [])) c.states-states.ensures in
     let zero : (k : ℕ) → k < length words → IsZeroRow R A.states rows (get_or origins k None) = λ k l.
-        subst (λ n. IsZeroRow R n rows (get_or origins k None)) c.states-states.ensures (c.find_origins.ensures.idle c.if-find_origins.false k (omega (arith, l, long))) in
+    subst (λ n. IsZeroRow R n rows (get_or origins k None)) c.states-states.ensures (c.find_origins.ensures.idle c.if-find_origins.false k (omega (arith, l, long))) in
     sym (idle_steps g.met.S.Semiring.laws g.met.S.Semiring.ranges at (source R w A.states f at) (by_source A) rows c.requires.rows_in
     (λ u i. let m = c.requires.moves u (by_source-In A u i).0 in (m.to, m.weight))
     (idle_runs g.met.S.Semiring.laws g.met.S.Semiring.ranges w A f at cells words rs c.requires.over c.requires.all c.requires.moves origins found rows refl zero))
@@ -130,9 +130,9 @@ returns-clause-rows g c =
     let origins = c.find_origins.new.origins in
     let long = length-map c.args.labels.now word_of in
     let found : (k : ℕ) → k < length words → get_or origins k None ≡ origin w A.states f at cells (get_or words k []) = λ k l.
-        c.find_origins.ensures.origins k (omega (arith, l, long))
-        ∙ ap (λ n. origin w n f at cells (get_or words k [])) c.states-states.ensures in
+    c.find_origins.ensures.origins k (omega (arith, l, long))
+    ∙ ap (λ n. origin w n f at cells (get_or words k [])) c.states-states.ensures in
     let zero : (k : ℕ) → k < length words → IsZeroRow R A.states rows (get_or origins k None) = λ k l.
-        subst (λ n. IsZeroRow R n rows (get_or origins k None)) c.states-states.ensures (c.find_origins.ensures.idle c.if-find_origins.false k (omega (arith, l, long))) in
+    subst (λ n. IsZeroRow R n rows (get_or origins k None)) c.states-states.ensures (c.find_origins.ensures.idle c.if-find_origins.false k (omega (arith, l, long))) in
     sym (idle_moved g.met.S.Semiring.laws g.met.S.Semiring.ranges at (source R w A.states f at) (by_source A) rows
     (idle_runs g.met.S.Semiring.laws g.met.S.Semiring.ranges w A f at cells words rs c.requires.over c.requires.all c.requires.moves origins found rows refl zero))

@@ -1,5 +1,5 @@
-use Rattle.std.proofs.Common.{◌≡◌, ◌<◌, ◌++◌, [], ◌∷◌, get_or, length, map, ap, ap₂, sym, ◌∙◌, arith, rules}
-use Rattle.std.proofs.lemmas.List.{get_or-map, length-map, map-append, take_more, take_all}
+use Rattle.std.proofs.Common.{◌≡◌, ◌<◌, ◌++◌, [], ◌∷◌, get_or, length, map, ap, ap₂, sym, ◌∙◌, arith}
+use Rattle.std.proofs.lemmas.List.{get_or-map, length-map, map-append, take_more}
 use Rattle.vc_label.specs.Borrowed.{word_of}
 use Rattle.vc_eval.specs.Runs.{words_of}
 use Rattle.vc_eval.proofs.Pushes.{All-item}

@@ -1,5 +1,5 @@
-use Rattle.std.proofs.Common.{◌≡◌, ◌<◌, ◌+◌, ◌*◌, ℕ, get_or, length, drop, [], ap, ap₂, sym, ◌∙◌, arith}
-use Rattle.vc_eval.specs.Positions.{place_onto, place_of}
+use Rattle.std.proofs.Common.{◌≡◌, ◌+◌, ◌*◌, ℕ, get_or, length, drop, [], ap, ap₂, sym, ◌∙◌, arith}
+use Rattle.vc_eval.specs.Positions.{place_onto}
 use Rattle.vc_eval.proofs.Places.{place_onto-is, place_step}
 use Rattle.vc_eval.proofs.Sizes.{last_place}
 use Rattle.vc_label.specs.Borrowed.{word_of}

@@ -73,16 +73,16 @@ forward-requires-clause-room g c =
     let states : c.states-states.result ≡ A.states = c.states-states.ensures ∙ ap (λ (X : Labelled g.row.S-Value.Denot). X.automaton.states) c.automaton.ensures in
     let long : n ≡ count * A.states = ap length c.deref_mut-2.ensures.value ∙ c.in-Ok-zeros.ensures.len ∙ ap (λ k. count * k) states in
     let window : (k : ℕ) → k < length words → place_of w (get_or words k []) < positions w → place_of w (get_or words k []) < count = λ k l b.
-        let labels : map word_of c.deref.result.now ≡ words = ap (map word_of) c.deref.ensures.value in
-        let here = ap (λ ws. place_of w (get_or ws k [])) labels in
-        let inside : k < length c.deref.result.now = let m = ap length c.deref.ensures.value in let q = length-map runs.labels.items word_of in omega (arith, l, m, q) in
-        let r = c.rows_wanted-wanted.ensures.window k inside (omega (arith, here, b, all)) in
-        omega (arith, r, here) in
+    let labels : map word_of c.deref.result.now ≡ words = ap (map word_of) c.deref.ensures.value in
+    let here = ap (λ ws. place_of w (get_or ws k [])) labels in
+    let inside : k < length c.deref.result.now = let m = ap length c.deref.ensures.value in let q = length-map runs.labels.items word_of in omega (arith, l, m, q) in
+    let r = c.rows_wanted-wanted.ensures.window k inside (omega (arith, here, b, all)) in
+    omega (arith, r, here) in
     let room : HasRoom A w n = tuple_room A w n count c.rows_wanted-wanted.ensures.some long (λ u i b.
-        let a = label_among A words rs over moves u i (c.proper_automata_are_proper.ensures.automaton.from u i) in
-        let same = ap (place_of w) a.2 in
-        let r = window a.0 a.1 (omega (arith, same, b)) in
-        omega (arith, r, same)) in
+    let a = label_among A words rs over moves u i (c.proper_automata_are_proper.ensures.automaton.from u i) in
+    let same = ap (place_of w) a.2 in
+    let r = window a.0 a.1 (omega (arith, same, b)) in
+    omega (arith, r, same)) in
     subst (λ (X : Labelled g.row.S-Value.Denot). HasRoom X.automaton w n) (sym c.automaton-3.ensures) room
 
 pub forward-requires-clause-positions : goal.forward-requires-clause-positions
