@@ -14,10 +14,10 @@ use vc_ring::{MakeFault, Overflow, Semiring};
 ///
 /// It keeps a row with a weight for each state for each letter of the longest label and one more,
 /// and uses them in turn, for every word. Where each label is one letter, a step goes through the
-/// states near those whose entry is not zero. The row of a prefix has at each state the sum of the
-/// weights of the paths to it that read the prefix, so the coefficient is the row of the whole word
-/// times the final weights (Sakarovitch, Elements of Automata Theory). A contract sees an evaluator
-/// as its automaton.
+/// states near those whose entry is not zero, else through the runs of the labels that end the
+/// prefix. The row of a prefix has at each state the sum of the weights of the paths to it that read
+/// the prefix, so the coefficient is the row of the whole word times the final weights (Sakarovitch,
+/// Elements of Automata Theory). A contract sees an evaluator as its automaton.
 #[derive(Drop)]
 pub struct Evaluator<'p, L: LabelSet, S: Semiring> {
     automaton: &'p Proper<L, S>,

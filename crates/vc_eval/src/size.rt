@@ -71,8 +71,7 @@ pub(crate) fn cells_of(states: u32, word: Word<'_>) -> Option<usize>
     }
 }
 
-/// So many rows that no label leads back further from a position: one more than the positions that
-/// one leads back.
+/// How many rows are wanted at once: one more than the positions that a label leads back at most.
 pub(crate) fn rows_wanted(labels: &[Word<'_>], word: Word<'_>, positions: usize) -> usize
     requires tapes { All (λ l. length l ≡ length (word_of word)) (map word_of labels.now) }
     requires some { 1 ≤ positions }
@@ -90,7 +89,7 @@ pub(crate) fn rows_wanted(labels: &[Word<'_>], word: Word<'_>, positions: usize)
     wanted
 }
 
-/// So many rows as before, or as many as one label wants.
+/// As many rows as before, or more if one label wants them.
 fn more_rows(wanted: usize, label: Word<'_>, word: Word<'_>, positions: usize) -> usize
     requires tapes { length (word_of label) ≡ length (word_of word) }
     requires wanted { wanted ≤ positions }

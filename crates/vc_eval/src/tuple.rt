@@ -12,10 +12,11 @@ use vc_aut::{Proper, proper_automata_are_proper};
 use vc_label::{LabelSet, Word};
 use vc_ring::{MakeFault, Semiring};
 
-/// The coefficient of a proper automaton at a word of as many tapes. It keeps a row for each
-/// position, that is a prefix length on each tape. `Limit` of `Cells` comes exactly where the rows
-/// have more than 20,000,000 entries together, and `Overflow` exactly where no limit is passed and a
-/// step of the forward rows does not fit.
+/// The coefficient of a proper automaton at a word of as many tapes. It fills a row for each
+/// position, that is a prefix length on each tape, and keeps so many of them that each label leads
+/// back to one. `Limit` of `Cells` comes exactly where the rows of all positions have more than
+/// 20,000,000 entries together, and `Overflow` exactly where no limit is passed and a step of the
+/// forward rows does not fit.
 pub fn eval_tuple<L: LabelSet, S: Semiring>(
     alloc: Global,
     aut: &Proper<L, S>,
