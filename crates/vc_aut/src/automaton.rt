@@ -1,4 +1,4 @@
-use crate::gather::gather;
+use crate::gathering::gather;
 use crate::starts::{starts, starts_of_sum};
 use crate::transition::Transition;
 use std::alloc::{AllocError, Global};

@@ -4,7 +4,7 @@
 mod automaton;
 mod builder;
 mod copies;
-mod gather;
+mod gathering;
 mod laws;
 mod links;
 mod moves;
@@ -16,7 +16,7 @@ mod with_labels;
 
 pub use automaton::Automaton;
 pub use builder::Builder;
-pub use gather::gather;
+pub use gathering::gather;
 pub use laws::{
     automata_are_valid, drafts_are_sums, drafts_are_valid, labels_are_over_wider_sets,
     proper_automata_are_proper, states_are_added, transitions_are_added, transitions_are_in_order,

@@ -2,7 +2,7 @@ ghost use Rattle.std.specs.Prelude.{IfOk, IfSome, IsTrue, length, map, ◌<◌, 
 ghost use Rattle.vc_aut.specs.Order.{AreInOrder};
 ghost use Rattle.vc_aut.specs.Stored.{AreStarts, AreSummed, GoesOn, transition_of};
 
-use crate::gather::order;
+use crate::gathering::order;
 use crate::moves::MOST_TRANSITIONS;
 use crate::transition::Transition;
 use std::alloc::{AllocError, Global};

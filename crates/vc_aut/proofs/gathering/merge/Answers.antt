@@ -7,7 +7,7 @@ use Rattle.vc_aut.specs.Stored.{transition_of}
 use Rattle.vc_aut.specs.declared.transition.Transition.{Transition as Stored}
 use Rattle.vc_aut.proofs.Merging.{IsMerging, merging_start, merging_same, merging_unfit, merging_next, merging_full}
 use Rattle.vc_aut.proofs.Refusals.{added_ok, added_err}
-use Rattle.vc_aut.proofs.gather.merge.Goals as goal
+use Rattle.vc_aut.proofs.gathering.merge.Goals as goal
 
 pub loop-next-init : goal.loop-next-init
 loop-next-init g c =

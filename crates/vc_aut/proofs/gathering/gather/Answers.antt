@@ -9,7 +9,7 @@ use Rattle.vc_aut.specs.Stored.{transition_of}
 use Rattle.vc_aut.proofs.Merged.{sum_answer, sums_of_sorted}
 use Rattle.vc_aut.proofs.Order.{triple_order_total}
 use Rattle.vc_aut.proofs.Sorted.{before, before_ranks, rising_sorted, same_groups}
-use Rattle.vc_aut.proofs.gather.gather.Goals as goal
+use Rattle.vc_aut.proofs.gathering.gather.Goals as goal
 
 pub merge-requires : goal.merge-requires
 merge-requires g c =

@@ -1,7 +1,7 @@
 use Rattle.std.proofs.Common.{All, IsTrue, map}
 use Rattle.vc_aut.specs.Stored.{transition_of}
 use Rattle.vc_aut.proofs.Merging.{IsMerging}
-use Rattle.vc_aut.proofs.gather.merge.Given as goal
+use Rattle.vc_aut.proofs.gathering.merge.Given as goal
 
 -- what is kept and what is left make the whole
 abbrev pub invariant-loop-next : goal.invariant-loop-next
