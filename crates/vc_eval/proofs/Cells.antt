@@ -49,31 +49,6 @@ module _ (n count slot b : ℕ) (s : slot < count) (one : 1 ≤ b) (c : b < coun
         omega (arith, up, f, r, some, l)
   ]
 
-  -- it begins where a row does
-  pub on_row : 1 ≤ n → (j : ℕ) × (earlier (slot * n) (b * n) (count * n) ≡ j * n)
-  on_row l = elim (cases_lt slot b) [
-    | inl h ↦
-        let d : ℕ = b - slot in
-        let j : ℕ = count - d in
-        let e = add-mul slot d n in
-        let q = ap (λ k. k * n) (sum_is slot d b (omega arith)) in
-        let x = add-mul j d n in
-        let y = ap (λ k. k * n) (sum_is j d count (omega arith)) in
-        let up = row_fits slot n b n h (omega arith) in
-        let f = earlier_high (slot * n) (b * n) (count * n) (omega (arith, up, l)) in
-        (j, omega (arith, f, e, q, x, y))
-    | inr h ↦
-        let d : ℕ = slot - b in
-        let e = add-mul d b n in
-        let q = ap (λ k. k * n) (sum_is d b slot (omega arith)) in
-        let up = mul-le b n slot n h (omega arith) in
-        let f = earlier_low (slot * n) (b * n) (count * n) up in
-        (d, omega (arith, f, e, q))
-  ]
-    where
-      sum_is : (x y z : ℕ) → x + y ≡ z → x + y ≡ z
-      sum_is x y z e = e
-
 -- the row behind another
 pub record IsBehind (n count slot : ℕ) : Type 0 where
   pub slot_behind : ℕ

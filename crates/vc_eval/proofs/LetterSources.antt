@@ -32,10 +32,10 @@ module _ {V : Type 0} (R : WeightSet V) (at : ℕ) where
   once-length (Some v) u rows = length-set rows (at + u.to) (R.plus (entry R rows (at + u.to)) (R.times v u.weight))
 
   -- two sources lead on in the same way where they agree on all rows that can come
-  abbrev Same : (List V → Transition V → Option V) → (List V → Transition V → Option V) → List (Transition V) → List V → Type 0
+  abbrev pub Same : (List V → Transition V → Option V) → (List V → Transition V → Option V) → List (Transition V) → List V → Type 0
   Same h k us rows = (moved R h at us rows ≡ moved R k at us rows) × (move_steps R h at us rows ≡ move_steps R k at us rows)
 
-  same_while : (P : List V → Type 0) (h k : List V → Transition V → Option V) (us : List (Transition V)) (rows : List V) → P rows
+  pub same_while : (P : List V → Type 0) (h k : List V → Transition V → Option V) (us : List (Transition V)) (rows : List V) → P rows
       → ((u : Transition V) → In u us → (rows : List V) → P rows → h rows u ≡ k rows u)
       → ((u : Transition V) → In u us → (rows : List V) → P rows → P (moved_once R at (k rows u) u rows))
       → Same h k us rows

@@ -6,7 +6,6 @@ pub mod Sources
 pub mod LetterSources
 pub mod Blocks
 pub mod ReadingLaws
-pub mod IdleStates
 pub mod Fronts
 pub mod Targets
 pub mod RowSteps
@@ -17,3 +16,5 @@ pub mod Prefixes
 pub mod Ends
 pub mod Rounds
 pub mod Sizes
+pub mod RunSteps
+pub mod LabelRuns

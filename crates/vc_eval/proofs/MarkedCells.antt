@@ -10,7 +10,7 @@ use Rattle.vc_eval.specs.LetterMoves.{carried}
 use Rattle.vc_eval.specs.Marks.{mark, AreMarked, AreKept, AreTargetsMarked}
 use Rattle.vc_eval.specs.Moves.{entry, cleared, moved}
 use Rattle.vc_eval.proofs.Cells.{cleared-other, cleared-zero}
-use Rattle.vc_eval.proofs.IdleStates.{In_all}
+use Rattle.vc_eval.proofs.Sources.{In_all}
 use Rattle.vc_eval.proofs.Targets.{moved-other}
 
 -- the block of a cell by its place in it

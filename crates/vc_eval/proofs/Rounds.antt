@@ -12,7 +12,7 @@ use Rattle.vc_ring.specs.declared.faults.Overflow.{Overflow}
 use Rattle.vc_eval.specs.Forward.{by_source, row_steps}
 use Rattle.vc_eval.specs.Moves.{entry, ends, earlier, source, cell_of, IsMoveHere, cleared, moved, move_steps, moved_once, once_steps}
 use Rattle.vc_eval.specs.Positions.{positions, place_of, prefix_at}
-use Rattle.vc_eval.proofs.Cells.{earlier_low, apart, bounded, on_row, IsBehind, cleared-length, cleared-other, cleared-zero}
+use Rattle.vc_eval.proofs.Cells.{earlier_low, apart, bounded, IsBehind, cleared-length, cleared-other, cleared-zero}
 use Rattle.vc_eval.proofs.EndCuts.{word_ends}
 use Rattle.vc_eval.proofs.Places.{before, prefix_is, size_le_place, place_of_none}
 use Rattle.vc_eval.proofs.RowSteps.{brings, row-fits, row-In, row-entry}
@@ -64,9 +64,12 @@ module _ {V : Type 0} {R : WeightSet V} (L : SemiringLaws R) (tapes : ℕ) (A : 
         both : {b : Bool} → b ≡ true → b ≡ false → ⊥
         both h k = cc (sym h ∙ k)
 
-    row_here : (u : Transition V) → In u A.transitions → IsTrue (ends u.label f) → (j : ℕ) × (earlier (slot * A.states) (place_of w u.label * A.states) cells ≡ j * A.states)
+    row_here : (u : Transition V) → In u A.transitions → IsTrue (ends u.label f) → earlier (slot * A.states) (place_of w u.label * A.states) cells + A.states ≤ cells
     row_here u i t = elim (word_ends u.label f) [
-      | inl (y, v, c) ↦ let from = G.from u i in on_row A.states count slot (place_of w u.label) s (back_some p p_in u i v c) (back_below p p_in u i v c) (omega (arith, from))
+      | inl (y, v, c) ↦
+          let from = G.from u i in
+          let last = bounded A.states count slot (place_of w u.label) s (back_some p p_in u i v c) (back_below p p_in u i v c) (A.states - 1) (omega (arith, from)) in
+          omega (arith, from, last)
       | inr (n, c) ↦ absurd (both t n)
     ]
       where

@@ -1,8 +1,8 @@
 -- The room of rows.
-use Rattle.std.proofs.Common.{◌≡◌, ◌≢◌, ℕ, ◌<◌, ◌≤◌, ◌+◌, ◌*◌, [], ◌∷◌, None, ap₂, length, get_or, map, drop, refl, sym, ap, ◌∙◌, subst, arith}
+use Rattle.std.proofs.Common.{◌≡◌, ◌≢◌, ℕ, ◌<◌, ◌≤◌, ◌+◌, ◌*◌, ◌/◌, [], ◌∷◌, None, ap₂, length, get_or, map, drop, refl, sym, ap, ◌∙◌, subst, arith}
 use Rattle.std.specs.List.{flat_map}
 use Rattle.std.proofs.lemmas.Grind.{common_steps}
-use Rattle.std.proofs.lemmas.Nat.{mul-le}
+use Rattle.std.proofs.lemmas.Nat.{div-mul-add, mul-le}
 use Rattle.std.proofs.Math.Nat.{mul_comm}
 use Rattle.vc_aut.specs.Labelled.{Labelled}
 use Rattle.vc_model.specs.WeightSet.{WeightSet}
@@ -15,7 +15,7 @@ use Rattle.vc_model.specs.OutcomeLaws.{AllFit-append}
 use Rattle.vc_ring.specs.Steps.{AllFit, fits}
 use Rattle.vc_eval.specs.Cells.{cells, longest, refusal_of, tuple_refusal}
 use Rattle.vc_eval.specs.Forward.{row_steps, row_factors, end_steps, products_steps, prefixes, forward_steps}
-use Rattle.vc_eval.specs.Positions.{positions, place_of, positions_onto}
+use Rattle.vc_eval.specs.Positions.{positions, place_of, place_onto, positions_onto}
 use Rattle.vc_eval.specs.Ready.{HasRoom}
 use Rattle.vc_eval.proofs.RowSteps.{AllFit-flat_map}
 use Rattle.vc_eval.proofs.Places.{positions_step, positions_least, positions_onto-is}
@@ -24,9 +24,34 @@ use Rattle.vc_eval.proofs.Sources.{longest-In, longest-least, no_items}
 pub refusal_small : {V : Type 0} (n : ℕ) → n ≤ 20000000 → refusal_of {V = V} n ≡ None
 refusal_small n h = grind (arith, common_steps)
 
--- rows for each position are room enough
-pub tuple_room : {V : Type 0} (A : Automaton V) (w : Word) (n cells : ℕ) → 1 ≤ positions w → cells ≡ A.states * positions w → n ≡ cells → HasRoom A w n
-tuple_room A w n cells s e d = record { count = positions w; some = s; whole = d ∙ e ∙ mul_comm A.states (positions w); window = λ u i p l b. omega (arith, l, b) }
+-- rows are room enough where each label that leads back to a position leads back less
+pub tuple_room : {V : Type 0} (A : Automaton V) (w : Word) (n count : ℕ) → 1 ≤ count → n ≡ count * A.states
+    → ((u : Transition V) → In u A.transitions → place_of w u.label < positions w → place_of w u.label < count) → HasRoom A w n
+tuple_room A w n count s e h = record { count = count; some = s; whole = e; window = λ u i p l b. h u i (omega (arith, l, b)) }
+
+-- so many rows have no more entries than one for each position
+pub rows_within : (states cells positions wanted : ℕ) → 1 ≤ states → cells ≡ states * positions → wanted ≤ positions → wanted * states ≤ cells
+rows_within states cells positions wanted s e l =
+    let m = mul-le wanted states positions states l (omega arith) in
+    let c = mul_comm states positions in
+    omega (arith, m, c, e)
+
+-- the entries of rows for all positions, divided among them
+pub position_count : (states cells positions : ℕ) → 1 ≤ states → cells ≡ states * positions → cells / states ≡ positions
+position_count states cells positions s e =
+    let c = mul_comm states positions in
+    let d : cells ≡ positions * states + 0 = omega (arith, c, e) in
+    ap (λ (n : ℕ). n / states) d ∙ div-mul-add positions states 0 s
+
+-- the positions are no more than the entries
+pub positions_within : (states cells positions : ℕ) → 1 ≤ states → cells ≡ states * positions → positions ≤ cells
+positions_within states cells positions s e =
+    let m = mul-le 1 positions states positions s (omega arith) in
+    omega (arith, m, e)
+
+-- behind the last tape the number is that of all tapes
+pub last_place : (w u : Word) (i n : ℕ) → length w ≤ i → place_onto n (drop i w) (drop i u) ≡ place_of w u → n ≡ place_of w u
+last_place w u i n l e = sym (ap (λ v. place_onto n v (drop i u)) (no_items w i l)) ∙ e
 
 single_place : (w u : Word) → length w ≡ 1 → place_of w u ≤ size u
 single_place [] u e = absurd (omega arith)

@@ -1,7 +1,8 @@
 -- Row steps source by source.
-use Rattle.std.proofs.Common.{◌≡◌, ℕ, ◌<◌, ◌≤◌, ◌+◌, ◌-◌, ◌==◌, max, List, [], ◌∷◌, ◌++◌, All, Option, Ok, Err, length, filter, get_or, drop, map, refl, sym, ap, ◌∙◌, inl, inr, zero, suc, arith, append_assoc}
+use Rattle.std.proofs.Common.{◌≡◌, ℕ, ◌<◌, ◌≤◌, ◌+◌, ◌-◌, ◌==◌, max, List, [], ◌∷◌, ◌++◌, All, Option, Ok, Err, length, filter, get_or, drop, map, refl, sym, ap, ◌∙◌, inl, inr, subst, zero, suc, arith, append_assoc}
 use Rattle.std.specs.List.{flat_map}
 use Rattle.std.proofs.lemmas.Bool.{eqb-true, eq-eqb}
+use Rattle.std.proofs.lemmas.List.Elements.{All-head, All-tail}
 use Rattle.vc_model.specs.WeightSet.{WeightSet}
 use Rattle.vc_model.specs.Automata.{Transition, Automaton}
 use Rattle.vc_model.specs.Lists.{In, up_from, below}
@@ -24,6 +25,12 @@ pub All_of : {X : Type 0} (P : X → Type 0) (xs : List X) → ((x : X) → In x
 All_of P [] h k d l = absurd (omega arith)
 All_of P (x ∷ xs) h zero d l = h x (inl refl)
 All_of P (x ∷ xs) h (suc k) d l = All_of P xs (λ y i. h y (inr i)) k d (omega arith)
+
+-- and each of its members has it
+pub In_all : {X : Type 0} (P : X → Type 0) (xs : List X) → All P xs → (x : X) → In x xs → P x
+In_all P [] a x i = absurd i
+In_all P (y ∷ ys) a x (inl e) = subst P (sym e) (All-head P y ys a)
+In_all P (y ∷ ys) a x (inr i) = In_all P ys (All-tail P y ys a) x i
 
 -- what is true of all transitions is true of those from a state
 pub All_from : {V : Type 0} (P : Transition V → Type 0) (ts : List (Transition V)) (s : ℕ) → ((u : Transition V) → In u ts → P u) → All P (filter (λ u. u.from == s) ts)

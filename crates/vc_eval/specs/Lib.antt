@@ -5,3 +5,4 @@ pub mod LetterMoves
 pub mod Cells
 pub mod Ready
 pub mod Marks
+pub mod Runs

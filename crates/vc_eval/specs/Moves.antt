@@ -40,7 +40,7 @@ pub record IsMoveHere {V : Type 0} (R : WeightSet V) (w : Word) (n : ℕ) (f : W
   pub place : IsTrue (ends u.label f) → place_of w u.label ≤ cells
   pub back : IsTrue (ends u.label f) → place_of w u.label * n ≤ cells
   pub from : IsTrue (ends u.label f) → cell_of w n at cells u < cells
-  pub row : IsTrue (ends u.label f) → (j : ℕ) × (earlier at (place_of w u.label * n) cells ≡ j * n)
+  pub row : IsTrue (ends u.label f) → earlier at (place_of w u.label * n) cells + n ≤ cells
 
 -- each transition of an automaton is such a move
 abbrev pub AreMovesHere : {V : Type 0} → WeightSet V → Word → Automaton V → Word → ℕ → ℕ → Type 0
@@ -83,7 +83,3 @@ cleared R at (suc n) rows = slice_set (cleared R at n rows) (at + n) R.zero
 -- where the row begins behind the one that begins at a cell, going around
 abbrev pub next_row : ℕ → ℕ → ℕ → ℕ
 next_row at n cells = if nat_lt n (cells - at) then at + n else 0
-
--- the entry of a state is zero in each row of n entries
-abbrev pub IsIdleState : {V : Type 0} → WeightSet V → ℕ → ℕ → List V → Type 0
-IsIdleState R n s rows = (k : ℕ) → k * n + s < length rows → entry R rows (k * n + s) ≡ R.zero

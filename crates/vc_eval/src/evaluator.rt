@@ -2,6 +2,7 @@
 
 use crate::marks::BLOCK;
 use crate::rows::forward;
+use crate::runs::{Runs, runs_unless};
 use crate::size::{longest, past_cells, zeros};
 use std::alloc::{AllocError, Global};
 use std::marker::Model;
@@ -13,14 +14,16 @@ use vc_ring::{MakeFault, Overflow, Semiring};
 ///
 /// It keeps a row with a weight for each state for each letter of the longest label and one more,
 /// and uses them in turn, for every word. Where each label is one letter, a step goes through the
-/// states near those whose entry is not zero. The row of a prefix has at each state the sum of the
-/// weights of the paths to it that read the prefix, so the coefficient is the row of the whole word
-/// times the final weights (Sakarovitch, Elements of Automata Theory). A contract sees an evaluator
-/// as its automaton.
+/// states near those whose entry is not zero, else through the runs of the labels that end the
+/// prefix. The row of a prefix has at each state the sum of the weights of the paths to it that read
+/// the prefix, so the coefficient is the row of the whole word times the final weights (Sakarovitch,
+/// Elements of Automata Theory). A contract sees an evaluator as its automaton.
 #[derive(Drop)]
 pub struct Evaluator<'p, L: LabelSet, S: Semiring> {
     automaton: &'p Proper<L, S>,
     single: bool,
+    runs: Runs<'p, L, S>,
+    origins: Vec<Option<usize>>,
     rows: Vec<S::Value>,
     marks: Vec<bool>,
 }
@@ -28,7 +31,10 @@ pub struct Evaluator<'p, L: LabelSet, S: Semiring> {
 impl<'p, L: LabelSet, S: Semiring> Model for Evaluator<'p, L, S> {
     ghost use Rattle.vc_aut.specs.Labelled.{Labelled, labelled_code};
     ghost use Rattle.vc_label.specs.contracts.tape_set.TapeSet.{the_row};
+    ghost use Rattle.std.specs.Prelude.{map};
     ghost use Rattle.vc_eval.specs.Ready.{IsReady};
+    ghost use Rattle.vc_eval.specs.Runs.{run_of};
+    ghost use Rattle.vc_label.specs.Borrowed.{word_of};
 
     ghost Value = { Labelled S.Value };
 
@@ -36,7 +42,7 @@ impl<'p, L: LabelSet, S: Semiring> Model for Evaluator<'p, L, S> {
 
     ghost view = { λ e. e.automaton.now };
 
-    ghost invariant = { λ e. IsReady S.set e.automaton.now e.single e.rows.items e.marks.items };
+    ghost invariant = { λ e. IsReady S.set e.automaton.now e.single (map word_of e.runs.labels.items) (map (run_of L.parts) e.runs.runs.items) e.origins.items e.rows.items e.marks.items };
 }
 
 impl<'p, L: LabelSet, S: Semiring> Evaluator<'p, L, S> {
@@ -71,9 +77,18 @@ impl<'p, L: LabelSet, S: Semiring> Evaluator<'p, L, S> {
         let Ok(marks) = Vec::from_elem(alloc, true, cells as usize / BLOCK + 1) else {
             return Err(MakeFault::Memory(AllocError));
         };
+        let single = longest == 1;
+        let Ok(runs) = runs_unless(alloc, single, aut.automaton()) else {
+            return Err(MakeFault::Memory(AllocError));
+        };
+        let Ok(origins) = Vec::from_elem(alloc, None, runs.labels.len()) else {
+            return Err(MakeFault::Memory(AllocError));
+        };
         Ok(Evaluator {
             automaton: aut,
-            single: longest == 1,
+            single,
+            runs,
+            origins,
             rows,
             marks,
         })
@@ -96,6 +111,8 @@ impl<'p, L: LabelSet, S: Semiring> Evaluator<'p, L, S> {
             word,
             positions,
             self.single,
+            &self.runs,
+            &mut self.origins,
             &mut self.rows,
             &mut self.marks,
         )

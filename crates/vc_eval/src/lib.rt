@@ -2,10 +2,12 @@
 #![tactic(auto)]
 
 mod evaluator;
+mod gather;
 mod laws;
 mod letters;
 mod marks;
 mod rows;
+mod runs;
 mod size;
 mod tuple;
 mod words;

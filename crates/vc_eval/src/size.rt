@@ -1,11 +1,11 @@
 //! How many entries the rows have, and whether they are too many.
 
-ghost use Rattle.std.specs.Prelude.{◌≡◌, ◌<◌, ◌≤◌, ◌*◌, ◌^◌, [], ◌∷◌, ℕ, All, IfOk, IfSome, None, Some, length, map, max};
+ghost use Rattle.std.specs.Prelude.{◌≡◌, ◌<◌, ◌≤◌, ◌*◌, ◌^◌, [], ◌∷◌, ℕ, All, IfOk, IfSome, None, Some, length, map, max, slice_index_or};
 ghost use Rattle.vc_aut.specs.Stored.{transition_of};
 ghost use Rattle.vc_eval.specs.Cells.{longest, refusal_of};
 ghost use Rattle.vc_label.specs.Borrowed.{word_of};
 ghost use Rattle.vc_model.specs.WeightSet.{InRange};
-ghost use Rattle.vc_eval.specs.Positions.{positions};
+ghost use Rattle.vc_eval.specs.Positions.{place_of, positions};
 
 use std::alloc::{AllocError, Global};
 use vc_aut::{Automaton, Transition, automata_are_valid};
@@ -69,6 +69,47 @@ pub(crate) fn cells_of(states: u32, word: Word<'_>) -> Option<usize>
     } else {
         Some(cells as usize)
     }
+}
+
+/// How many rows are wanted at once: one more than the positions that a label leads back at most.
+pub(crate) fn rows_wanted(labels: &[Word<'_>], word: Word<'_>, positions: usize) -> usize
+    requires tapes { All (λ l. length l ≡ length (word_of word)) (map word_of labels.now) }
+    requires some { 1 ≤ positions }
+    requires few { positions ≤ 20000000 }
+    ensures some { 1 ≤ result }
+    ensures most { result ≤ positions }
+    ensures window { (k : ℕ) → k < length labels.now
+        → place_of (word_of word.entry) (slice_index_or (map word_of labels.now) k []) < positions
+        → place_of (word_of word.entry) (slice_index_or (map word_of labels.now) k []) < result }
+{
+    let mut wanted = 1;
+    for number in 0..labels.len() {
+        wanted = more_rows(wanted, labels[number], word, positions);
+    }
+    wanted
+}
+
+/// As many rows as before, or more if one label wants them.
+fn more_rows(wanted: usize, label: Word<'_>, word: Word<'_>, positions: usize) -> usize
+    requires tapes { length (word_of label) ≡ length (word_of word) }
+    requires wanted { wanted ≤ positions }
+    requires some { 1 ≤ positions }
+    requires few { positions ≤ 20000000 }
+    ensures kept { wanted ≤ result }
+    ensures most { result ≤ positions }
+    ensures enough { place_of (word_of word.entry) (word_of label.entry) < positions
+        → place_of (word_of word.entry) (word_of label.entry) < result }
+{
+    let mut place = 0;
+    for tape in 0..word.tapes() {
+        let width = word.tape(tape).len() as u128 + 1;
+        let next = place as u128 * width + label.tape(tape).len() as u128;
+        if next >= positions as u128 {
+            return positions;
+        }
+        place = next as usize;
+    }
+    wanted.max(place + 1)
 }
 
 /// So many entries that are zero.

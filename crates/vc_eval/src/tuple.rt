@@ -5,16 +5,18 @@ ghost use Rattle.vc_eval.specs.Cells.{IsTupleAnswer};
 ghost use Rattle.vc_label.specs.Borrowed.{word_of};
 
 use crate::rows::forward;
-use crate::size::{cells_of, past_cells, zeros};
+use crate::runs::runs_of;
+use crate::size::{cells_of, past_cells, rows_wanted, zeros};
 use std::alloc::{AllocError, Global};
 use vc_aut::{Proper, proper_automata_are_proper};
 use vc_label::{LabelSet, Word};
 use vc_ring::{MakeFault, Semiring};
 
-/// The coefficient of a proper automaton at a word of as many tapes. It keeps a row for each
-/// position, that is a prefix length on each tape. `Limit` of `Cells` comes exactly where the rows
-/// have more than 20,000,000 entries together, and `Overflow` exactly where no limit is passed and a
-/// step of the forward rows does not fit.
+/// The coefficient of a proper automaton at a word of as many tapes. It fills a row for each
+/// position, that is a prefix length on each tape, and keeps so many of them that each label leads
+/// back to one. `Limit` of `Cells` comes exactly where the rows of all positions have more than
+/// 20,000,000 entries together, and `Overflow` exactly where no limit is passed and a step of the
+/// forward rows does not fit.
 pub fn eval_tuple<L: LabelSet, S: Semiring>(
     alloc: Global,
     aut: &Proper<L, S>,
@@ -32,14 +34,24 @@ pub fn eval_tuple<L: LabelSet, S: Semiring>(
     let Some(cells) = cells_of(states, word) else {
         return Err(past_cells::<S>());
     };
-    let Ok(mut rows) = zeros::<S>(alloc, cells) else {
+    let positions = cells / states as usize;
+    let Ok(runs) = runs_of(alloc, aut.automaton()) else {
+        return Err(MakeFault::Memory(AllocError));
+    };
+    let wanted = rows_wanted(&runs.labels, word, positions);
+    let Ok(mut rows) = zeros::<S>(alloc, wanted * states as usize) else {
+        return Err(MakeFault::Memory(AllocError));
+    };
+    let Ok(mut origins) = Vec::from_elem(alloc, None, runs.labels.len()) else {
         return Err(MakeFault::Memory(AllocError));
     };
     match forward(
         aut.automaton(),
         word,
-        cells / states as usize,
+        positions,
         false,
+        &runs,
+        &mut origins,
         &mut rows,
         &mut [],
     ) {

@@ -60,13 +60,31 @@ fn cut(tape: &[u8], rest: usize, position: usize) -> (&[u8], usize)
     (&tape[..position / rest], position % rest)
 }
 
+/// A label of so many parts as the word of its parts.
+pub(crate) fn parts<L: LabelSet>(label: &L::Label, tapes: usize) -> Word<'_>
+    requires { tapes ≡ length (L.parts label.now) }
+    ensures { word_of result ≡ L.parts label.now }
+{
+    match tapes {
+        1 => Word::one(L::part(label, 0)),
+        2 => Word::two(L::part(label, 0), L::part(label, 1)),
+        3 => Word::three(L::part(label, 0), L::part(label, 1), L::part(label, 2)),
+        _ => Word::four(
+            L::part(label, 0),
+            L::part(label, 1),
+            L::part(label, 2),
+            L::part(label, 3),
+        ),
+    }
+}
+
 /// Whether each tape of a word ends with that tape of the label.
-pub(crate) fn is_end<L: LabelSet>(label: &L::Label, word: Word<'_>) -> bool
-    requires { length (L.parts label.now) ≡ length (word_of word) }
-    ensures { result ≡ ends (L.parts label.now) (word_of word.entry) }
+pub(crate) fn is_end(label: Word<'_>, word: Word<'_>) -> bool
+    requires { length (word_of label) ≡ length (word_of word) }
+    ensures { result ≡ ends (word_of label.entry) (word_of word.entry) }
 {
     for tape in 0..word.tapes() {
-        if !word.tape(tape).ends_with(L::part(label, tape)) {
+        if !word.tape(tape).ends_with(label.tape(tape)) {
             return false;
         }
     }
@@ -74,14 +92,14 @@ pub(crate) fn is_end<L: LabelSet>(label: &L::Label, word: Word<'_>) -> bool
 }
 
 /// The number of the position in a word whose lengths are those of the label.
-pub(crate) fn place<L: LabelSet>(label: &L::Label, word: Word<'_>) -> usize
-    requires tapes { length (L.parts label.now) ≡ length (word_of word) }
-    requires small { place_of (word_of word) (L.parts label.now) < 2 ^ 64 }
-    ensures { result ≡ place_of (word_of word.entry) (L.parts label.now) }
+pub(crate) fn place(label: Word<'_>, word: Word<'_>) -> usize
+    requires tapes { length (word_of label) ≡ length (word_of word) }
+    requires small { place_of (word_of word) (word_of label) < 2 ^ 64 }
+    ensures { result ≡ place_of (word_of word.entry) (word_of label.entry) }
 {
     let mut place = 0;
     for tape in 0..word.tapes() {
-        place = place * (word.tape(tape).len() + 1) + L::part(label, tape).len();
+        place = place * (word.tape(tape).len() + 1) + label.tape(tape).len();
     }
     place
 }

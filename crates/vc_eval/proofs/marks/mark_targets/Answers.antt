@@ -1,6 +1,6 @@
 use Rattle.std.proofs.Common.{◌<◌, map}
 use Rattle.vc_aut.specs.Stored.{transition_of}
-use Rattle.vc_eval.proofs.IdleStates.{In_all}
+use Rattle.vc_eval.proofs.Sources.{In_all}
 use Rattle.vc_eval.proofs.marks.mark_targets.Goals as goal
 
 pub returns-then-transitions-states-clause-targets : goal.returns-then-transitions-states-clause-targets

@@ -1,4 +1,5 @@
 use Rattle.std.proofs.Common.{◌≡◌, ℕ, ◌-◌, OnOk, length, get_or, ap, sym, ◌∙◌, subst}
+use Rattle.std.proofs.lemmas.Result.{on_ok_weaker}
 use Rattle.vc_label.specs.Borrowed.{word_of}
 use Rattle.vc_ring.specs.Steps.{outcome}
 use Rattle.vc_eval.specs.Forward.{by_source}
@@ -53,3 +54,36 @@ gather_row-requires-clause-moves g c =
     let R = g.S.Semiring.set in
     let A = c.args.aut.now.automaton in
     λ u i. subst (λ n. IsMoveHere R (word_of c.args.word) A.states (word_of c.args.front) c.args.at n u) (sym c.clear.auto.rows) (c.requires.moves u i)
+
+pub gather_row-requires-clause-over : goal.gather_row-requires-clause-over
+gather_row-requires-clause-over g c =
+    rw (c.deref.ensures.value, c.deref-2.ensures.value) (c.requires.over c.if-single.false)
+
+pub gather_row-requires-clause-all : goal.gather_row-requires-clause-all
+gather_row-requires-clause-all g c =
+    rw c.deref-2.ensures.value (c.requires.all c.if-single.false)
+
+pub gather_row-requires-clause-origins : goal.gather_row-requires-clause-origins
+gather_row-requires-clause-origins g c =
+    rw c.deref.ensures.value (c.requires.origins c.if-single.false)
+
+pub returns-clause-steps : goal.returns-clause-steps
+returns-clause-steps g c =
+    let R = g.S.Semiring.set in
+    let A = c.args.aut.now.automaton in
+    let at = c.args.at in
+    let h = source R (word_of c.args.word) A.states (word_of c.args.front) at in
+    let made : c.clear.new.rows ≡ cleared R at A.states c.args.rows.now = c.clear.ensures.rows ∙ ap (λ n. cleared R at n c.args.rows.now) c.states-states.ensures in
+    c.gather_row.ensures.steps ∙ ap (λ r. outcome R (move_steps R h at (by_source A) r) (tt {0})) made
+
+pub returns-clause-rows : goal.returns-clause-rows
+returns-clause-rows g c =
+    let R = g.S.Semiring.set in
+    let A = c.args.aut.now.automaton in
+    let at = c.args.at in
+    let h = source R (word_of c.args.word) A.states (word_of c.args.front) at in
+    let made : c.clear.new.rows ≡ cleared R at A.states c.args.rows.now = c.clear.ensures.rows ∙ ap (λ n. cleared R at n c.args.rows.now) c.states-states.ensures in
+    subst (λ z. OnOk c.gather_row.result (c.gather_row.new.rows ≡ z)) (ap (moved R h at (by_source A)) made) c.gather_row.ensures.rows
+
+pub returns-clause-marked : goal.returns-clause-marked
+returns-clause-marked g c = on_ok_weaker c.gather_row.result (λ e t. absurd (cc (sym t ∙ c.if-single.false))) c.gather_row.ensures.rows

@@ -183,3 +183,12 @@ fill-requires-clause-letters g c = λ single.
     subst (λ z. AreLettersHere A z at (length rows)) (sym c.front.ensures)
     (subst (λ a. AreLettersHere A (prefix_at w q) a (length rows)) (sym ea)
     (subst (AreLettersHere A (prefix_at w q) (k.slot_behind * A.states)) (sym whole) here))
+
+pub fill-requires-clause-over : goal.fill-requires-clause-over
+fill-requires-clause-over g c = c.requires.over
+
+pub fill-requires-clause-all : goal.fill-requires-clause-all
+fill-requires-clause-all g c = c.requires.all
+
+pub fill-requires-clause-origins : goal.fill-requires-clause-origins
+fill-requires-clause-origins g c = λ s. c.loop-position.auto.origins ∙ c.requires.origins s
