@@ -1,9 +1,7 @@
 -- Moves of either state of a pair, one after the other.
-use Rattle.std.proofs.Common.{◌≡◌, ◌<◌, ◌≤◌, ◌+◌, ◌⊎◌, ℕ, zero, suc, List, [], ◌∷◌, map, Bool, Less, Equal, Greater, arith, length, drop, get_or, refl, sym, ap, ap₂, ◌∙◌, subst, inl, inr, false}
-use Rattle.std.specs.Prelude.{◌↔◌, ◌≢◌, IfErr, Result, Ok, Err}
+use Rattle.std.proofs.Common.{◌≡◌, ◌<◌, ◌≤◌, ◌+◌, ℕ, List, [], ◌∷◌, map, Less, Equal, Greater, arith, length, drop, get_or, refl, sym, ap, ap₂, ◌∙◌, subst, inl, inr, false}
+use Rattle.std.specs.Prelude.{◌↔◌, IfErr, Result, Ok, Err}
 use Rattle.std.specs.Cmp.{IsTotalOrder}
-use Rattle.std.specs.declared.cmp.Ordering.{Ordering}
-use Rattle.std.proofs.lemmas.Bool.{cases_lt}
 use Rattle.vc_aut.specs.Order.{moves_from}
 use Rattle.vc_label.specs.Order.{word_order}
 use Rattle.vc_model.specs.Automata.{Automaton, Transition}
@@ -18,123 +16,119 @@ use Rattle.vc_ring.specs.declared.faults.MakeFault.TheVariants.{Overflow as Unfi
 use Rattle.vc_ring.specs.declared.faults.Overflow.{Overflow}
 use Rattle.vc_ring.specs.declared.faults.Overflow.TheVariants.{Add}
 use Rattle.vc_search.specs.Courses.{Course, IsStopped, NoStep, led_all, targets}
-use Rattle.vc_search.specs.CourseLaws.{lead_stops}
+use Rattle.vc_search.specs.CourseLaws.{lead_stops, led_keeps}
 use Rattle.vc_join.specs.Orders.{item_before, item_order}
 use Rattle.vc_join.specs.Pairs.{Pair, same_states}
-use Rattle.vc_join.specs.Shuffles.{IsMixing, IsShuffleStep, insert_items, left_item, mixed_items, right_item, shuffle_items}
+use Rattle.vc_join.specs.Shuffles.{IsMixing, IsNextMixed, IsShuffleStep, first_order, insert_items, left_item, mixed_items, right_item, shuffle_items}
 use Rattle.vc_join.proofs.ItemOrder.{After, adds_first, after_all, goes_first, later, same_key, stays, turned_back}
-use Rattle.vc_join.proofs.PlaceSums.{mapped_at}
-use Rattle.vc_join.proofs.Steps.{next_item}
 
--- what is left of a list in order is in order
-pub drop_ascending : {X Y : Type 0} (before : Y → Y → Bool) (f : X → Y) (n : ℕ) (xs : List X) → IsAscending before (map f xs) → IsAscending before (map f (drop n xs))
-drop_ascending before f zero xs a = a
-drop_ascending before f (suc n) [] a = a
-drop_ascending before f (suc n) (x ∷ xs) a = drop_ascending before f n xs a.1
+-- the state that moves next has a move
+pub left_some : {V : Type 0} (k : Pair) (ts us : List (Transition V)) → first_order k ts us ≡ Less → 0 < length ts
+left_some k [] us q = absurd (cc)
+left_some k (t ∷ ts) us q = omega arith
 
-past_end : {X : Type 0} (n : ℕ) (xs : List X) → length xs ≤ n → drop n xs ≡ []
-past_end zero [] h = refl
-past_end zero (x ∷ xs) h = absurd (omega arith)
-past_end (suc n) [] h = refl
-past_end (suc n) (x ∷ xs) h = past_end n xs (omega arith)
+pub right_some : {V : Type 0} (k : Pair) (ts us : List (Transition V)) → 0 < length ts + length us → first_order k ts us ≡ Greater → 0 < length us
+right_some k [] [] s q = absurd (omega (arith, s))
+right_some k (t ∷ ts) [] s q = absurd (cc)
+right_some k ts (u ∷ us) s q = omega arith
 
-at_self : {X : Type 0} (xs : List X) (n : ℕ) (d : X) → n < length xs → get_or xs n (get_or xs n d) ≡ get_or xs n d
-at_self [] n d h = absurd (omega arith)
-at_self (x ∷ xs) zero d h = refl
-at_self (x ∷ xs) (suc n) d h = at_self xs n d (omega arith)
+pub both_some : {V : Type 0} (k : Pair) (ts us : List (Transition V)) → first_order k ts us ≡ Equal → (0 < length ts) × (0 < length us)
+both_some k [] us q = absurd (cc)
+both_some k (t ∷ ts) [] q = absurd (cc)
+both_some k (t ∷ ts) (u ∷ us) q = (omega arith, omega arith)
 
-module _ (total : IsTotalOrder word_order) (equal : (v w : Word) → (word_order v w ≡ Equal) ↔ (v ≡ w)) {V X : Type 0} (R : WeightSet V) (k : Pair) (f : X → Transition V) (ts us : List X) (i j : ℕ)
-    (o : Ordering)
-    (ends : length ts ≤ i → o ≡ Greater) (stops : i < length ts → length us ≤ j → o ≡ Less)
-    (both : i < length ts → j < length us → (d : Transition V) → o ≡ item_order (left_item k.1 (get_or (map f ts) i d)) (right_item k.0 (get_or (map f us) j d)))
-    (in_ts : IsAscending item_before (map (left_item k.1) (map f ts))) (in_us : IsAscending item_before (map (right_item k.0) (map f us))) where
-  abbrev L : X → Item V Pair
-  L t = left_item k.1 (f t)
+module _ (total : IsTotalOrder word_order) (equal : (v w : Word) → (word_order v w ≡ Equal) ↔ (v ≡ w)) {V : Type 0} (R : WeightSet V) (k : Pair) where
+  abbrev L : Transition V → Item V Pair
+  L t = left_item k.1 t
 
-  abbrev U : X → Item V Pair
-  U u = right_item k.0 (f u)
+  abbrev U : Transition V → Item V Pair
+  U u = right_item k.0 u
 
-  fuse : {Y Z W : Type 0} (g : Z → W) (h : Y → Z) (ys : List Y) → map g (map h ys) ≡ map (λ y. g (h y)) ys
-  fuse g h [] = refl
-  fuse g h (y ∷ ys) = ap (λ zs. g (h y) ∷ zs) (fuse g h ys)
+  -- a move of each as one of both
+  abbrev pub of_both : Transition V → Transition V → Item V Pair
+  of_both t u = record { label = t.label; weight = R.plus t.weight u.weight; to = (t.to, k.1) }
 
-  lefts_after : (n : ℕ) → IsAscending item_before (map L (drop n ts))
-  lefts_after n = drop_ascending item_before L n ts (subst (IsAscending item_before) (fuse (left_item k.1) f ts) in_ts)
+  -- the moves of both states are in order
+  abbrev pub AreInTurn : List (Transition V) → List (Transition V) → Type 0
+  AreInTurn ts us = IsAscending item_before (map L ts) × IsAscending item_before (map U us)
 
-  rights_after : (n : ℕ) → IsAscending item_before (map U (drop n us))
-  rights_after n = drop_ascending item_before U n us (subst (IsAscending item_before) (fuse (right_item k.0) f us) in_us)
+  left_first : (t : Transition V) (ts us : List (Transition V)) → AreInTurn (t ∷ ts) us → first_order k (t ∷ ts) us ≡ Less → mixed_items R k (t ∷ ts) us ≡ L t ∷ mixed_items R k ts us
+  left_first t ts [] a q = refl
+  left_first t ts (u ∷ us) a q = stays total equal R (L t) (map L ts) (map U (u ∷ us)) (later total equal (L t) (U u) (map U us) q (after_all total equal (U u) (map U us) a.1))
 
-  mixed_is : (n m : ℕ) → mixed_items R k (map f (drop n ts)) (map f (drop m us)) ≡ insert_items R (map L (drop n ts)) (map U (drop m us))
-  mixed_is n m = ap₂ (insert_items R) (fuse (left_item k.1) f (drop n ts)) (fuse (right_item k.0) f (drop m us))
+  right_first : (ts : List (Transition V)) (u : Transition V) (us : List (Transition V)) → AreInTurn ts (u ∷ us) → first_order k ts (u ∷ us) ≡ Greater → mixed_items R k ts (u ∷ us) ≡ U u ∷ mixed_items R k ts us
+  right_first [] u us a q = goes_first total equal R [] (map U us) (U u) (λ d i. absurd i) (after_all total equal (U u) (map U us) a.1)
+  right_first (t ∷ ts) u us a q = goes_first total equal R (map L (t ∷ ts)) (map U us) (U u)
+      (later total equal (U u) (L t) (map L ts) (turned_back total equal (L t) (U u) q) (after_all total equal (L t) (map L ts) a.0))
+      (after_all total equal (U u) (map U us) a.1)
 
-  left_next : (t : X) → i < length ts → t ≡ get_or ts i t → map L (drop i ts) ≡ L t ∷ map L (drop (i + 1) ts)
-  left_next t h e = ap (map L) (next_item ts i t h e)
+  -- the next move is one of the first state
+  pub takes_left : (ts us : List (Transition V)) → AreInTurn ts us → first_order k ts us ≡ Less → (x : Transition V) → x ≡ get_or ts 0 x → mixed_items R k ts us ≡ L x ∷ mixed_items R k (drop 1 ts) us
+  takes_left [] us a q x e = absurd (cc)
+  takes_left (t ∷ ts) us a q x e = left_first t ts us a q ∙ ap (λ (y : Transition V). L y ∷ mixed_items R k ts us) (sym e)
 
-  right_next : (u : X) → j < length us → u ≡ get_or us j u → map U (drop j us) ≡ U u ∷ map U (drop (j + 1) us)
-  right_next u h e = ap (map U) (next_item us j u h e)
+  -- it is one of the second state
+  pub takes_right : (ts us : List (Transition V)) → AreInTurn ts us → 0 < length ts + length us → first_order k ts us ≡ Greater → (x : Transition V) → x ≡ get_or us 0 x → mixed_items R k ts us ≡ U x ∷ mixed_items R k ts (drop 1 us)
+  takes_right [] [] a s q x e = absurd (omega (arith, s))
+  takes_right (t ∷ ts) [] a s q x e = absurd (cc)
+  takes_right ts (u ∷ us) a s q x e = right_first ts u us a q ∙ ap (λ (y : Transition V). U y ∷ mixed_items R k ts us) (sym e)
 
-  order_is : (t u : X) → i < length ts → j < length us → t ≡ get_or ts i t → u ≡ get_or us j u → item_order (L t) (U u) ≡ o
-  order_is t u h m e q = sym (both h m (f t)
-      ∙ ap₂ (λ (x y : Transition V). item_order (left_item k.1 x) (right_item k.0 y)) (mapped_at f ts i t (f t) h ∙ ap f (sym e)) (mapped_at f us j u (f t) m ∙ ap f (sym q)))
+  -- there is one of each, which lead to one pair by one label
+  pub takes_both : (ts us : List (Transition V)) → AreInTurn ts us → first_order k ts us ≡ Equal → (x y : Transition V) → x ≡ get_or ts 0 x → y ≡ get_or us 0 y
+      → mixed_items R k ts us ≡ of_both x y ∷ mixed_items R k (drop 1 ts) (drop 1 us)
+  takes_both [] us a q x y e r = absurd (cc)
+  takes_both (t ∷ ts) [] a q x y e r = absurd (cc)
+  takes_both (t ∷ ts) (u ∷ us) a q x y e r =
+      adds_first total equal R (map L ts) (map U us) (L t) (U u) q (after_all total equal (U u) (map U us) a.1)
+      ∙ ap₂ (λ (v w : Transition V). of_both v w ∷ mixed_items R k ts us) (sym e) (sym r)
 
-  -- the left move is next
-  pub left_is_next : o ≡ Less → (i < length ts)
-  left_is_next q = elim (cases_lt i (length ts)) [ inl h ↦ h | inr h ↦ (let g = ends h in absurd (cc)) ]
+  pub same_of_both : (ts us : List (Transition V)) → first_order k ts us ≡ Equal → (x y : Transition V) → x ≡ get_or ts 0 x → y ≡ get_or us 0 y → item_key (L x) ≡ item_key (U y)
+  same_of_both [] us q x y e r = absurd (cc)
+  same_of_both (t ∷ ts) [] q x y e r = absurd (cc)
+  same_of_both (t ∷ ts) (u ∷ us) q x y e r = same_key total equal (L x) (U y) (ap₂ (λ (v w : Transition V). item_order (L v) (U w)) e r ∙ q)
 
-  pub takes_left : o ≡ Less → (t : X) → t ≡ get_or ts i t → mixed_items R k (map f (drop i ts)) (map f (drop j us)) ≡ left_item k.1 (f t) ∷ mixed_items R k (map f (drop (i + 1) ts)) (map f (drop j us))
-  takes_left q t e =
-      let h = left_is_next q in
-      mixed_is i j ∙ ap (λ zs. insert_items R zs (map U (drop j us))) (left_next t h e)
-      ∙ stays total equal R (L t) (map L (drop (i + 1) ts)) (map U (drop j us)) (elim (cases_lt j (length us)) [
-        | inl m ↦
-            let u = get_or us j t in
-            let r : u ≡ get_or us j u = sym (at_self us j t m) in
-            subst (After (L t)) (sym (right_next u m r)) (later total equal (L t) (U u) (map U (drop (j + 1) us)) (order_is t u h m e r ∙ q) (after_all total equal (U u) (map U (drop (j + 1) us)) (subst (IsAscending item_before) (right_next u m r) (rights_after j))))
-        | inr m ↦ subst (After (L t)) (sym (ap (map U) (past_end j us m))) (λ d a. absurd a)
-      ])
-      ∙ ap (λ zs. L t ∷ zs) (sym (mixed_is (i + 1) j))
+  module _ (ts us : List (Transition V)) (a : AreInTurn ts us) (from : ℕ) (c d : Course V Pair) (h : from < length c.members) where
+    -- what is led on by the next move leads on by what is left
+    taken : (n : ℕ × ℕ) (e : Item V Pair) → mixed_items R k ts us ≡ e ∷ mixed_items R k (drop n.0 ts) (drop n.1 us) → n.0 ≤ length ts → n.1 ≤ length us → 0 < n.0 + n.1 → d ≡ led_all same_states from c (e ∷ []) → IsNextMixed R k ts us from c n d
+    taken n e m p q z l =
+        let keeps = led_keeps same_states from c d (e ∷ []) l h in
+        record {
+          rest = ap (λ (b : Course V Pair). led_all same_states from b (mixed_items R k (drop n.0 ts) (drop n.1 us))) l ∙ ap (led_all same_states from c) (sym m);
+          left = p;
+          right = q;
+          some = z;
+          sets = keeps.0;
+          from = keeps.1;
+        }
 
-  right_within : o ≢ Less → i < length ts ⊎ j < length us → j < length us
-  right_within q t = elim (cases_lt j (length us)) [
-    | inl m ↦ m
-    | inr m ↦ elim t [ inl h ↦ absurd (q (stops h m)) | inr n ↦ n ]
-  ]
+    pub took_left : first_order k ts us ≡ Less → (x : Transition V) → x ≡ get_or ts 0 x → d ≡ led_all same_states from c (L x ∷ []) → IsNextMixed R k ts us from c (1, 0) d
+    took_left q x e l = let s = left_some k ts us q in taken (1, 0) (L x) (takes_left ts us a q x e) (omega (arith, s)) (omega arith) (omega arith) l
 
-  -- what is left on the right comes after the next one
-  rights_later : (u : X) → (m : j < length us) → u ≡ get_or us j u → After (U u) (map U (drop (j + 1) us))
-  rights_later u m e = after_all total equal (U u) (map U (drop (j + 1) us)) (subst (IsAscending item_before) (right_next u m e) (rights_after j))
+    pub took_right : 0 < length ts + length us → first_order k ts us ≡ Greater → (x : Transition V) → x ≡ get_or us 0 x → d ≡ led_all same_states from c (U x ∷ []) → IsNextMixed R k ts us from c (0, 1) d
+    took_right z q x e l = let s = right_some k ts us z q in taken (0, 1) (U x) (takes_right ts us a z q x e) (omega arith) (omega (arith, s)) (omega arith) l
 
-  pub takes_right : o ≡ Greater → i < length ts ⊎ j < length us → (u : X) → u ≡ get_or us j u → mixed_items R k (map f (drop i ts)) (map f (drop j us)) ≡ right_item k.0 (f u) ∷ mixed_items R k (map f (drop i ts)) (map f (drop (j + 1) us))
-  takes_right q w u e =
-      let m = right_within (λ z. absurd (cc)) w in
-      mixed_is i j ∙ ap (insert_items R (map L (drop i ts))) (right_next u m e)
-      ∙ goes_first total equal R (map L (drop i ts)) (map U (drop (j + 1) us)) (U u) (elim (cases_lt i (length ts)) [
-        | inl h ↦
-            let t = get_or ts i u in
-            let r : t ≡ get_or ts i t = sym (at_self ts i u h) in
-            subst (After (U u)) (sym (left_next t h r)) (later total equal (U u) (L t) (map L (drop (i + 1) ts)) (turned_back total equal (L t) (U u) (order_is t u h m r e ∙ q)) (after_all total equal (L t) (map L (drop (i + 1) ts)) (subst (IsAscending item_before) (left_next t h r) (lefts_after i))))
-        | inr h ↦ subst (After (U u)) (sym (ap (map L) (past_end i ts h))) (λ d a. absurd a)
-      ]) (rights_later u m e)
-      ∙ ap (λ zs. U u ∷ zs) (sym (mixed_is i (j + 1)))
+    pub took_both : first_order k ts us ≡ Equal → (x y : Transition V) → x ≡ get_or ts 0 x → y ≡ get_or us 0 y → d ≡ led_all same_states from c (of_both x y ∷ []) → IsNextMixed R k ts us from c (1, 1) d
+    took_both q x y e r l = let s = both_some k ts us q in taken (1, 1) (of_both x y) (takes_both ts us a q x y e r) (omega (arith, s.0)) (omega (arith, s.1)) (omega arith) l
 
-  pub right_is_next : o ≢ Less → i < length ts ⊎ j < length us → j < length us
-  right_is_next q w = right_within q w
+-- where one state has no move left, and where both have one
+pub none_left : {V X : Type 0} (k : Pair) (f : X → Transition V) (ts us : List X) → length ts ≡ 0 → Greater ≡ first_order k (map f ts) (map f us)
+none_left k f [] us h = refl
+none_left k f (t ∷ ts) us h = absurd (omega (arith, h))
 
-  pub left_is_within : o ≡ Equal → i < length ts
-  left_is_within q = elim (cases_lt i (length ts)) [ inl h ↦ h | inr h ↦ (let g = ends h in absurd (cc)) ]
+pub none_right : {V X : Type 0} (k : Pair) (f : X → Transition V) (ts us : List X) → 0 < length ts → length us ≡ 0 → Less ≡ first_order k (map f ts) (map f us)
+none_right k f [] us g h = absurd (omega (arith, g))
+none_right k f (t ∷ ts) [] g h = refl
+none_right k f (t ∷ ts) (u ∷ us) g h = absurd (omega (arith, h))
 
-  pub takes_both : o ≡ Equal → i < length ts ⊎ j < length us → (t u : X) → t ≡ get_or ts i t → u ≡ get_or us j u
-      → mixed_items R k (map f (drop i ts)) (map f (drop j us)) ≡ record { label = (f t).label; weight = R.plus (f t).weight (f u).weight; to = ((f t).to, k.1) } ∷ mixed_items R k (map f (drop (i + 1) ts)) (map f (drop (j + 1) us))
-  takes_both q w t u e r =
-      let h = left_is_within q in
-      let m = right_within (λ z. absurd (cc)) w in
-      mixed_is i j ∙ ap₂ (insert_items R) (left_next t h e) (right_next u m r)
-      ∙ adds_first total equal R (map L (drop (i + 1) ts)) (map U (drop (j + 1) us)) (L t) (U u) (order_is t u h m e r ∙ q) (rights_later u m r)
-      ∙ ap (λ zs. record { label = (f t).label; weight = R.plus (f t).weight (f u).weight; to = ((f t).to, k.1) } ∷ zs) (sym (mixed_is (i + 1) (j + 1)))
+pub order_of_both : {V X : Type 0} (k : Pair) (f : X → Transition V) (ts us : List X) (x y : X) → 0 < length ts → 0 < length us → x ≡ get_or ts 0 x → y ≡ get_or us 0 y → item_order (left_item k.1 (f x)) (right_item k.0 (f y)) ≡ first_order k (map f ts) (map f us)
+order_of_both k f [] us x y g h e r = absurd (omega (arith, g))
+order_of_both k f (t ∷ ts) [] x y g h e r = absurd (omega (arith, h))
+order_of_both {V} {X} k f (t ∷ ts) (u ∷ us) x y g h e r = ap₂ (λ (v w : X). item_order (left_item k.1 (f v)) (right_item k.0 (f w))) e r
 
-  -- both lead to one pair by one label
-  pub same_of_both : o ≡ Equal → i < length ts ⊎ j < length us → (t u : X) → t ≡ get_or ts i t → u ≡ get_or us j u → item_key (left_item k.1 (f t)) ≡ item_key (right_item k.0 (f u))
-  same_of_both q w t u e r = same_key total equal (L t) (U u) (order_is t u (left_is_within q) (right_within (λ z. absurd (cc)) w) e r ∙ q)
+-- what stands in front of a mapped list
+pub front_of : {X Y : Type 0} (f : X → Y) (xs : List X) (x : X) → 0 < length xs → x ≡ get_or xs 0 x → f x ≡ get_or (map f xs) 0 (f x)
+front_of f [] x h e = absurd (omega arith)
+front_of f (y ∷ xs) x h e = ap f e
 
 module _ {V : Type 0} (R : WeightSet V) where
   -- the sum of the weights of two moves does not fit
@@ -146,15 +140,23 @@ module _ {V : Type 0} (R : WeightSet V) where
   MixFails k ts us o = IsMixing k ts us o × (fits R o ≡ false)
 
   -- a stop at a move of one state
-  pub alone_stops : (k : Pair) (ts us : List (Transition V)) (from : ℕ) (c d : Course V Pair) (e : Item V Pair) (rest : List (Item V Pair)) → led_all same_states from c (e ∷ rest) ≡ led_all same_states from d (mixed_items R k ts us)
-      → (f : MakeFault V) → IsStopped same_states NoStep c (e.to ∷ []) 1 f → IsStopped same_states (MixFails k ts us) d (targets (mixed_items R k ts us)) (length (mixed_items R k ts us)) f
-  alone_stops k ts us from c d e rest p f h = lead_stops same_states (λ o. ⊥) (MixFails k ts us) (λ o q. absurd q) from c d (e ∷ []) rest (mixed_items R k ts us) p f h
+  pub alone_stops : (k : Pair) (ts us : List (Transition V)) (from : ℕ) (c : Course V Pair) (e : Item V Pair) (rest : List (Item V Pair)) → mixed_items R k ts us ≡ e ∷ rest
+      → (f : MakeFault V) → IsStopped same_states NoStep c (e.to ∷ []) 1 f → IsStopped same_states (MixFails k ts us) c (targets (mixed_items R k ts us)) (length (mixed_items R k ts us)) f
+  alone_stops k ts us from c e rest p f h = lead_stops same_states (λ o. ⊥) (MixFails k ts us) (λ o q. absurd q) from c c (e ∷ []) rest (mixed_items R k ts us) (ap (led_all same_states from c) (sym p)) f h
 
   -- a stop at a move of both
-  pub both_stop : (k : Pair) (ts us : List (Transition V)) (t u : Transition V) → In t ts → In u us → item_key (left_item k.1 t) ≡ item_key (right_item k.0 u) → (from : ℕ) (c d : Course V Pair) (e : Item V Pair) (rest : List (Item V Pair)) → led_all same_states from c (e ∷ rest) ≡ led_all same_states from d (mixed_items R k ts us)
-      → (f : MakeFault V) → IsStopped same_states (SumFails t u) c (e.to ∷ []) 1 f → IsStopped same_states (MixFails k ts us) d (targets (mixed_items R k ts us)) (length (mixed_items R k ts us)) f
-  both_stop k ts us t u a b s from c d e rest p f h =
-      lead_stops same_states (SumFails t u) (MixFails k ts us) (λ o q. (record { left = t; right = u; left_in = a; right_in = b; same = s; is = q.0 }, q.1)) from c d (e ∷ []) rest (mixed_items R k ts us) p f h
+  pub both_stop : (k : Pair) (ts us : List (Transition V)) (t u : Transition V) → In t ts → In u us → item_key (left_item k.1 t) ≡ item_key (right_item k.0 u) → (from : ℕ) (c : Course V Pair) (e : Item V Pair) (rest : List (Item V Pair)) → mixed_items R k ts us ≡ e ∷ rest
+      → (f : MakeFault V) → IsStopped same_states (SumFails t u) c (e.to ∷ []) 1 f → IsStopped same_states (MixFails k ts us) c (targets (mixed_items R k ts us)) (length (mixed_items R k ts us)) f
+  both_stop k ts us t u a b s from c e rest p f h =
+      lead_stops same_states (SumFails t u) (MixFails k ts us) (λ o q. (record { left = t; right = u; left_in = a; right_in = b; same = s; is = q.0 }, q.1)) from c c (e ∷ []) rest (mixed_items R k ts us) (ap (led_all same_states from c) (sym p)) f h
+
+  -- a stop at what is left
+  pub rest_stops : (k : Pair) (ts us all_ts all_us : List (Transition V)) → ((t : Transition V) → In t ts → In t all_ts) → ((u : Transition V) → In u us → In u all_us) → (from : ℕ) (c d : Course V Pair) → led_all same_states from c (mixed_items R k ts us) ≡ led_all same_states from d (mixed_items R k all_ts all_us)
+      → (f : MakeFault V) → IsStopped same_states (MixFails k ts us) c (targets (mixed_items R k ts us)) (length (mixed_items R k ts us)) f → IsStopped same_states (MixFails k all_ts all_us) d (targets (mixed_items R k all_ts all_us)) (length (mixed_items R k all_ts all_us)) f
+  rest_stops k ts us all_ts all_us a b from c d p f h =
+      lead_stops same_states (MixFails k ts us) (MixFails k all_ts all_us)
+      (λ o q. let m = q.0 in (record { left = m.left; right = m.right; left_in = a m.left m.left_in; right_in = b m.right m.right_in; same = m.same; is = m.is }, q.1))
+      from c d (mixed_items R k ts us) [] (mixed_items R k all_ts all_us) p f h
 
   -- a stop at the moves of a pair, as one of the pair
   pub mix_stops : {T : Type 0} (A B : Automaton V) (k : Pair) (c : Course V Pair) (r : Result T (MakeFault V)) → IfErr r (IsStopped same_states (MixFails k (moves_from A.transitions k.0) (moves_from B.transitions k.1)) c (targets (shuffle_items R A B k)) (length (shuffle_items R A B k)))

@@ -1,8 +1,9 @@
 -- One item more of a list.
-use Rattle.std.proofs.Common.{◌≡◌, ℕ, List, [], ◌∷◌, ◌++◌, map, Bool, true, false, cond, refl, sym, ap, ◌∙◌, zero, suc, ◌<◌, ◌+◌, arith, length, drop, take, get_or, ◌-◌, length-drop}
+use Rattle.std.proofs.Common.{◌≡◌, ℕ, List, [], ◌∷◌, ◌++◌, map, Bool, true, false, cond, refl, sym, ap, ◌∙◌, zero, suc, ◌<◌, ◌+◌, arith, length, drop, take, get_or, ◌-◌, length-drop, inr}
 use Rattle.std.specs.List.{filter}
 use Rattle.std.proofs.lemmas.List.{append-nil}
-use Rattle.vc_model.specs.Lists.{below}
+use Rattle.vc_model.specs.Gathered.{IsAscending}
+use Rattle.vc_model.specs.Lists.{In, below}
 use Rattle.vc_model.specs.Members.{up_from-more}
 use Rattle.vc_join.specs.Pairs.{Pair}
 
@@ -58,3 +59,24 @@ take_all (x ∷ xs) n e = ap (λ k. take k (x ∷ xs)) e ∙ ap (λ zs. x ∷ zs
 -- all that is left from a place on
 pub take_rest : {X : Type 0} (xs : List X) (i : ℕ) → take (length xs - i) (drop i xs) ≡ drop i xs
 take_rest xs i = take_all (drop i xs) (length xs - i) (sym (length-drop i xs))
+
+-- what is left of a mapped list
+pub drop_map : {X Y : Type 0} (f : X → Y) (n : ℕ) (xs : List X) → drop n (map f xs) ≡ map f (drop n xs)
+drop_map f zero xs = refl
+drop_map f (suc n) [] = refl
+drop_map f (suc n) (x ∷ xs) = drop_map f n xs
+
+-- the same where it is cut to its length
+pub rest_map : {X Y : Type 0} (f : X → Y) (n : ℕ) (xs : List X) → map f (take (length xs - n) (drop n xs)) ≡ drop n (map f xs)
+rest_map f n xs = ap (map f) (take_rest xs n) ∙ sym (drop_map f n xs)
+
+-- it has no other members, and its order
+pub drop_in : {X : Type 0} (n : ℕ) (xs : List X) (x : X) → In x (drop n xs) → In x xs
+drop_in zero xs x i = i
+drop_in (suc n) [] x i = i
+drop_in (suc n) (y ∷ xs) x i = inr (drop_in n xs x i)
+
+pub drop_ascending : {X Y : Type 0} (before : Y → Y → Bool) (f : X → Y) (n : ℕ) (xs : List X) → IsAscending before (map f xs) → IsAscending before (map f (drop n xs))
+drop_ascending before f zero xs a = a
+drop_ascending before f (suc n) [] a = a
+drop_ascending before f (suc n) (x ∷ xs) a = drop_ascending before f n xs a.1

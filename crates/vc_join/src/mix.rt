@@ -1,10 +1,9 @@
 //! Moves of either state of a pair, in order.
-ghost use Rattle.std.specs.Prelude.{◌≡◌, ◌<◌, ◌≤◌, ◌∷◌, [], All, IfErr, IfOk, IsTrue, OnOk, false, length, map, slice_index_or};
-ghost use Rattle.std.specs.declared.cmp.Ordering.TheVariants.{Less as Before, Greater as Behind};
+ghost use Rattle.std.specs.Prelude.{◌≡◌, ◌<◌, ◌+◌, ◌∷◌, [], IfErr, IfOk, IsTrue, OnOk, false, length, map};
 ghost use Rattle.vc_aut.specs.Stored.{transition_of};
-ghost use Rattle.vc_join.specs.Orders.{item_before, item_order};
+ghost use Rattle.vc_join.specs.Orders.{item_before};
 ghost use Rattle.vc_join.specs.Pairs.{same_states};
-ghost use Rattle.vc_join.specs.Shuffles.{IsMixing, left_item, mixed_items, right_item};
+ghost use Rattle.vc_join.specs.Shuffles.{IsMixing, IsNextMixed, first_order, left_item, mixed_items, right_item};
 ghost use Rattle.vc_label.specs.Sets.{IsOverSets};
 ghost use Rattle.vc_model.specs.Automata.{Transition as Move};
 ghost use Rattle.vc_model.specs.Gathered.{IsAscending};
@@ -80,35 +79,93 @@ fn lead_by_both<L: LabelSet, S: Semiring>(
     }
 }
 
-/// Which move comes first: that at a place of the left moves, or that at a place of the right ones.
-/// Where one list has ended, it is that of the other.
-fn first_of<L: LabelSet, S: Semiring>(
+/// Which state has the next move, that in front of its list. Where one list has ended, it is that
+/// of the other.
+fn order_of_next<L: LabelSet, S: Semiring>(
     pair: Pair,
     lefts: &[Transition<L, S>],
-    left: usize,
     rights: &[Transition<L, S>],
-    right: usize,
 ) -> Ordering
-    requires left { left ≤ length lefts.now }
-    requires right { right ≤ length rights.now }
-    ensures lefts_end { length lefts.now ≤ left → result ≡ Behind }
-    ensures rights_end { left < length lefts.now → length rights.now ≤ right → result ≡ Before }
-    ensures both { left < length lefts.now → right < length rights.now → (d : Move S.Value)
-        → result ≡ item_order
-        (left_item pair.1 (slice_index_or (map (transition_of L.parts) lefts.now) left d))
-        (right_item pair.0 (slice_index_or (map (transition_of L.parts) rights.now) right d)) }
+    ensures { result ≡ first_order pair (map (transition_of L.parts) lefts.now)
+        (map (transition_of L.parts) rights.now) }
 {
-    if left == lefts.len() {
+    if lefts.is_empty() {
         return Ordering::Greater;
     }
-    if right == rights.len() {
+    if rights.is_empty() {
         return Ordering::Less;
     }
     let (p, q) = pair;
-    lefts[left]
-        .label
-        .cmp(&rights[right].label)
-        .then(lefts[left].to.cmp(&p).then(q.cmp(&rights[right].to)))
+    let left = &lefts[0];
+    let right = &rights[0];
+    left.label
+        .cmp(&right.label)
+        .then(left.to.cmp(&p).then(q.cmp(&right.to)))
+}
+
+/// Leads from a pair by the next move of one of both, or by one of each where they lead to the same
+/// pair by the same label. It gives how many moves of each it took from the front.
+fn mix_next<L: LabelSet, S: Semiring>(
+    alloc: Global,
+    pair: Pair,
+    lefts: &[Transition<L, S>],
+    rights: &[Transition<L, S>],
+    from: u32,
+    into: &mut Exploration<L, S, Pair>,
+) -> Result<(usize, usize), MakeFault<S::Value>>
+    requires from { from < length into.old.members }
+    requires some { 0 < length lefts.now + length rights.now }
+    requires lefts { IsAscending item_before
+        (map (left_item pair.1) (map (transition_of L.parts) lefts.now)) }
+    requires rights { IsAscending item_before
+        (map (right_item pair.0) (map (transition_of L.parts) rights.now)) }
+    requires lefts_over { (t : Move S.Value) → In t (map (transition_of L.parts) lefts.now)
+        → IsOverSets into.old.sets t.label }
+    requires rights_over { (t : Move S.Value) → In t (map (transition_of L.parts) rights.now)
+        → IsOverSets into.old.sets t.label }
+    requires lefts_full { (t : Move S.Value) → In t (map (transition_of L.parts) lefts.now)
+        → is_empty t.label ≡ false }
+    requires rights_full { (t : Move S.Value) → In t (map (transition_of L.parts) rights.now)
+        → is_empty t.label ≡ false }
+    requires lefts_in { (t : Move S.Value) → In t (map (transition_of L.parts) lefts.now)
+        → IsTrue (S.set.in_range t.weight) }
+    requires rights_in { (t : Move S.Value) → In t (map (transition_of L.parts) rights.now)
+        → IsTrue (S.set.in_range t.weight) }
+    ensures ok { IfOk result (λ n. IsNextMixed S.set pair (map (transition_of L.parts) lefts.now)
+        (map (transition_of L.parts) rights.now) from into.old n into.new) }
+    ensures fault { IfErr result (IsStopped same_states
+        (λ o. IsMixing pair (map (transition_of L.parts) lefts.now)
+        (map (transition_of L.parts) rights.now) o × (fits S.set o ≡ false)) into.old
+        (targets (mixed_items S.set pair (map (transition_of L.parts) lefts.now)
+        (map (transition_of L.parts) rights.now)))
+        (length (mixed_items S.set pair (map (transition_of L.parts) lefts.now)
+        (map (transition_of L.parts) rights.now)))) }
+{
+    words_are_ordered();
+    let (p, q) = pair;
+    match order_of_next(pair, lefts, rights) {
+        Ordering::Less => {
+            let left = &lefts[0];
+            match lead_by(alloc, &left.label, left.weight, (left.to, q), from, into) {
+                Ok(()) => return Ok((1, 0)),
+                Err(fault) => return Err(fault),
+            }
+        }
+        Ordering::Greater => {
+            let right = &rights[0];
+            match lead_by(alloc, &right.label, right.weight, (p, right.to), from, into) {
+                Ok(()) => return Ok((0, 1)),
+                Err(fault) => return Err(fault),
+            }
+        }
+        Ordering::Equal => {
+            let left = &lefts[0];
+            match lead_by_both(alloc, left, &rights[0], (left.to, q), from, into) {
+                Ok(()) => return Ok((1, 1)),
+                Err(fault) => return Err(fault),
+            }
+        }
+    }
 }
 
 /// Leads from a pair by each move of one of both. Both lists are in order, and each is gone through
@@ -148,34 +205,15 @@ pub(crate) fn mix_all<L: LabelSet, S: Semiring>(
         (length (mixed_items S.set pair (map (transition_of L.parts) lefts.now)
         (map (transition_of L.parts) rights.now)))) }
 {
-    words_are_ordered();
-    let (p, q) = pair;
-    let mut left = 0;
-    let mut right = 0;
-    while left < lefts.len() || right < rights.len() {
-        match first_of(pair, lefts, left, rights, right) {
-            Ordering::Less => {
-                let next = &lefts[left];
-                if let Err(fault) = lead_by(alloc, &next.label, next.weight, (next.to, q), from, into) {
-                    return Err(fault);
-                }
-                left += 1;
+    let mut left = lefts;
+    let mut right = rights;
+    while !left.is_empty() || !right.is_empty() {
+        match mix_next(alloc, pair, left, right, from, into) {
+            Ok((taken_left, taken_right)) => {
+                left = &left[taken_left..];
+                right = &right[taken_right..];
             }
-            Ordering::Greater => {
-                let next = &rights[right];
-                if let Err(fault) = lead_by(alloc, &next.label, next.weight, (p, next.to), from, into) {
-                    return Err(fault);
-                }
-                right += 1;
-            }
-            Ordering::Equal => {
-                let next = &lefts[left];
-                if let Err(fault) = lead_by_both(alloc, next, &rights[right], (next.to, q), from, into) {
-                    return Err(fault);
-                }
-                left += 1;
-                right += 1;
-            }
+            Err(fault) => return Err(fault),
         }
     }
     Ok(())

@@ -12,7 +12,8 @@ pub(crate) fn from_label<'t, L: LabelSet, S: Semiring>(
     label: &L::Label,
     moves: &'t [Transition<L, S>],
 ) -> &'t [Transition<L, S>]
-    ensures { map (transition_of L.parts) result.now ≡ from_label (L.parts label.now) (map (transition_of L.parts) moves.now) }
+    ensures { map (transition_of L.parts) result.now
+        ≡ from_label (L.parts label.now) (map (transition_of L.parts) moves.now) }
 {
     for place in 0..moves.len() {
         if !moves[place].label.cmp(label).is_lt() {
@@ -27,7 +28,8 @@ pub(crate) fn run_of<'t, L: LabelSet, S: Semiring>(
     label: &L::Label,
     moves: &'t [Transition<L, S>],
 ) -> &'t [Transition<L, S>]
-    ensures { map (transition_of L.parts) result.now ≡ run_of (L.parts label.now) (map (transition_of L.parts) moves.now) }
+    ensures { map (transition_of L.parts) result.now
+        ≡ run_of (L.parts label.now) (map (transition_of L.parts) moves.now) }
 {
     for place in 0..moves.len() {
         if moves[place].label != *label {

@@ -131,12 +131,15 @@ module _ {V K : Type 0} (same : K → K → Bool) (self : (k : K) → same k k �
               let more = q.1 in
               let e = ap length numbered_next in
               let w = W.most in
-              inl (q.0 ∙ ap (λ m. record { what = States; most = m }) w, record {
-                members = numbered same (next_by items) first (n + 1);
-                once = once (n + 1);
-                accessible = found (n + 1);
-                more = omega (arith, more, e, w);
-              })
+              inl (
+                q.0 ∙ ap (λ m. record { what = States; most = m }) w,
+                record {
+                  members = numbered same (next_by items) first (n + 1);
+                  once = once (n + 1);
+                  accessible = found (n + 1);
+                  more = omega (arith, more, e, w);
+                },
+              )
           | inr q ↦
               let more = q.1 in
               let p = place_found c.members n k past s in
@@ -145,13 +148,16 @@ module _ {V K : Type 0} (same : K → K → Bool) (self : (k : K) → same k k �
               let b = named_length items past c.members same n in
               let d = ap length (W.transitions c.members l) in
               let e = ap (λ x. length (items x)) p.2 in
-              inr (q.0, record {
-                triples = named_below items past c.members (n + 1);
-                once = named_once items past c.members (n + 1) (subst NoRepeat (sym W.numbered) (once n)) (omega (arith, p.0)) (once_next c.members l o);
-                accessible = λ y i. let r = named_by items past c.members (n + 1) y i in let b = r.1 in subst (IsAccessible (next_by items) first) (sym r.2) (accessible (get_or c.members r.0 past) (get_in c.members r.0 (omega (arith, b, p.0))));
-                named = λ y i. (named_by items past c.members (n + 1) y i).3;
-                more = omega (arith, more, a, b, d, e);
-              })
+              inr (
+                q.0,
+                record {
+                  triples = named_below items past c.members (n + 1);
+                  once = named_once items past c.members (n + 1) (subst NoRepeat (sym W.numbered) (once n)) (omega (arith, p.0)) (once_next c.members l o);
+                  accessible = λ y i. let r = named_by items past c.members (n + 1) y i in let b = r.1 in subst (IsAccessible (next_by items) first) (sym r.2) (accessible (get_or c.members r.0 past) (get_in c.members r.0 (omega (arith, b, p.0))));
+                  named = λ y i. (named_by items past c.members (n + 1) y i).3;
+                  more = omega (arith, more, a, b, d, e);
+                },
+              )
         ]
         stops o (Memory x) h = tt
 

@@ -2,7 +2,7 @@
 ghost use Rattle.std.specs.Prelude.{◌≡◌, ◌≤◌, ℕ, Bool, List, length, slice_index_or};
 ghost use Rattle.vc_model.specs.Automata.{Automaton};
 ghost use Rattle.vc_model.specs.Items.{Item};
-ghost use Rattle.vc_model.specs.Lists.{In, IsEqualityTest};
+ghost use Rattle.vc_model.specs.Lists.{IsEqualityTest};
 ghost use Rattle.vc_model.specs.Machines.{StandsFor};
 ghost use Rattle.vc_model.specs.Numbering.{IsNumbering};
 ghost use Rattle.vc_model.specs.WeightSet.{SemiringLaws, WeightSet};

@@ -1,4 +1,4 @@
-//! The search that numbers the members that are found from first ones, and automata whose states stand for them.
+//! Members that are found from first ones, by number, and automata whose states stand for them.
 #![tactic(auto)]
 
 mod exploration;

@@ -6,7 +6,7 @@ use vc_ring::{MakeFault, Overflow, Semiring};
 
 /// Members that lead to members by labels and weights, and that begin and end with weights.
 pub trait Moves<L: LabelSet, S: Semiring> {
-    ghost use Rattle.std.specs.Prelude.{◌≡◌, ◌<◌, ◌↔◌, ℕ, List, IfErr, IfOk, IsTrue, OnOk, false, length, map};
+    ghost use Rattle.std.specs.Prelude.{◌≡◌, ◌<◌, ◌↔◌, List, IfErr, IfOk, IsTrue, OnOk, false, length, map};
     ghost use Rattle.vc_label.specs.declared.tape_set.TapeSet.{TapeSet};
     ghost use Rattle.vc_model.specs.Items.{Item, item_key};
     ghost use Rattle.vc_model.specs.Lists.{In, NoRepeat};

@@ -38,7 +38,7 @@ impl<K: Eq + Hash + Drop> Model for Search<K> {
 }
 
 impl<K: Eq + Hash + Drop> Search<K> {
-    ghost use Rattle.std.specs.Prelude.{◌≡◌, ◌≤◌, ◌<◌, [], IfOk, OnOk, OnErr, length, slice_get, Some, true, option_copied};
+    ghost use Rattle.std.specs.Prelude.{◌≡◌, ◌≤◌, ◌<◌, [], IfOk, OnOk, OnErr, length, slice_get, Some, option_copied};
     ghost use Rattle.vc_search.specs.Found.{with_member, number_of, member_refusal, IsFound};
 
     /// A search that may find so many members, and has found none. It takes no memory.
@@ -70,8 +70,8 @@ impl<K: Eq + Hash + Drop> Search<K> {
         self.members.get_index(number)
     }
 
-    /// The number of a member, which is found now where it is new. `Full` comes exactly where it is new and the most
-    /// members are found already; after an error the search is as before.
+    /// The number of a member, which is found now where it is new. `Full` comes exactly where it is
+    /// new and the most members are found already; after an error the search is as before.
     pub fn find(&mut self, key: K) -> Result<u32, SearchFault>
         ensures ok { OnOk result (self.new ≡ with_member K.eq self.old key) }
         ensures number { IfOk result (λ n. n ≡ number_of K.eq key self.old.members) }

@@ -1,7 +1,6 @@
 use Rattle.std.proofs.Common.{◌≡◌, ◌≤◌, [], ap, arith, length, map, refl, subst, sym, ◌∙◌}
 use Rattle.std.proofs.lemmas.List.{length-map}
 use Rattle.vc_aut.specs.Drafts.{without_zeros}
-use Rattle.vc_aut.specs.EmptyLabels.{HasEmptyLabel}
 use Rattle.vc_aut.specs.Stored.{transition_of}
 use Rattle.vc_aut.specs.Sums.{insert_all}
 use Rattle.vc_aut.specs.Validity.{IsMove}
@@ -64,7 +63,7 @@ returns-in-Err-from_transitions-clause-fault g c =
     let T = transition_of g.L.LabelSet.parts in
     let e = c.in-Ok.exploration in
     let once = followed_once R eq g.met.M.Moves.same M.past (M.first m) (M.items m) (M.is_member m) e c.in-Ok.ensures.followed
-        (c.members_are_numbered.ensures.closed eq g.met.M.Moves.same (next_by (M.items m)) (M.first m) e.members c.in-Ok.ensures.followed.numbering) in
+    (c.members_are_numbered.ensures.closed eq g.met.M.Moves.same (next_by (M.items m)) (M.first m) e.members c.in-Ok.ensures.followed.numbering) in
     sum_refusal R (c.transitions_are_added.ensures.triples R) c.transitions_are_added.ensures.standing (c.transitions_are_added.ensures.order R) (M.items m) (M.first m) (M.is_step m) c.args.most
     (map T c.finish-search.result.1.items) (c.drafts_are_sums.ensures.order R [])
     (subst (λ ts. NoRepeat (map triple ts)) (sym c.finish-search.ensures.transitions) once)
