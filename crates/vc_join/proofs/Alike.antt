@@ -224,7 +224,7 @@ pub run_alike : {V : Type 0} (w : Word) (rest run : List (Transition V)) → run
 run_alike w rest run e u i = run_labels w rest u (subst (In u) e i)
 
 -- a property of all members is one of each
-pub all_in : {X : Type 0} {P : X → Type 0} (xs : List X) → All P xs → (x : X) → In x xs → P x
-all_in [] h x i = absurd i
-all_in {X} {P} (y ∷ xs) h x (inl e) = subst P (sym e) (All-head P y xs h)
-all_in {X} {P} (y ∷ xs) h x (inr i) = all_in xs (All-tail P y xs h) x i
+pub all_in : {X : Type 0} (P : X → Type 0) (xs : List X) → All P xs → (x : X) → In x xs → P x
+all_in P [] h x i = absurd i
+all_in P (y ∷ xs) h x (inl e) = subst P (sym e) (All-head P y xs h)
+all_in P (y ∷ xs) h x (inr i) = all_in P xs (All-tail P y xs h) x i

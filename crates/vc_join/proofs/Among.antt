@@ -42,8 +42,8 @@ next_states {V} R A B a b j k i =
 -- all that is accessible is a pair of states
 pub reached_states : {V : Type 0} (R : WeightSet V) (same : V → V → Bool) (A B : Automaton V) (next : Pair → List Pair) → ((j k : Pair) → IsOfStates A B j → In k (next j) → IsOfStates A B k)
     → (k : Pair) → IsAccessible next (first_pairs R same A B) k → IsOfStates A B k
-reached_states R same A B next step k (Starts k i) = first_states R same A B k i
-reached_states R same A B next step k (Follows j k a i) = step j k (reached_states R same A B next step j a) i
+reached_states R same A B next step _ (Starts k i) = first_states R same A B k i
+reached_states R same A B next step _ (Follows j k a i) = step j k (reached_states R same A B next step j a) i
 
 -- a transition from a state is a transition
 pub move_among : {V : Type 0} (A : Automaton V) (p : ℕ) (t : Transition V) → In t (moves_from A.transitions p) → In t A.transitions

@@ -98,7 +98,7 @@ module _ (total : IsTotalOrder word_order) (equal : (v w : Word) → (word_order
           right = q;
           some = z;
           sets = keeps.0;
-          from = keeps.1;
+          within = keeps.1;
         }
 
     pub took_left : first_order k ts us ≡ Less → (x : Transition V) → x ≡ get_or ts 0 x → d ≡ led_all same_states from c (L x ∷ []) → IsNextMixed R k ts us from c (1, 0) d

@@ -63,6 +63,45 @@ ascending_both before (x ∷ xs) ys a b h = (
   ascending_both before xs ys a.1 b (λ z y i j. h z y (inr i) j),
 )
 
+first_before : (a b c : Ordering) → ordering_then a b ≡ Less → is_lt (ordering_then a (ordering_then b c)) ≡ true
+first_before Less b c h = refl
+first_before Greater b c h = absurd (cc)
+first_before Equal Less c h = refl
+first_before Equal Equal c h = absurd (cc)
+first_before Equal Greater c h = absurd (cc)
+
+-- the moves of one state, while the other stays
+left_sorted : {V : Type 0} (q : ℕ) (ts : List (Transition V)) → AreByMove ts → IsAscending item_before (map (left_item q) ts)
+left_sorted q [] s = tt
+left_sorted q (t ∷ ts) s = (
+  (λ e i.
+      let r = In-map_from (left_item q) e ts i in
+      subst (λ z. item_before (left_item q t) z ≡ true) (sym r.2) (first_before (word_order t.label r.0.label) (nat_cmp t.to r.0.to) (nat_cmp q q) (s.0 r.0 r.1))),
+  left_sorted q ts s.1,
+)
+
+behind_equal : (a m c : Ordering) → m ≡ Equal → ordering_then a c ≡ Less → is_lt (ordering_then a (ordering_then m c)) ≡ true
+behind_equal a Less c e h = absurd (cc)
+behind_equal a Greater c e h = absurd (cc)
+behind_equal Less Equal c e h = refl
+behind_equal Greater Equal c e h = absurd (cc)
+behind_equal Equal Equal c e h = ap is_lt h
+
+right_sorted : {V : Type 0} (p : ℕ) (us : List (Transition V)) → AreByMove us → IsAscending item_before (map (right_item p) us)
+right_sorted p [] s = tt
+right_sorted p (u ∷ us) s = (
+  (λ e i.
+      let r = In-map_from (right_item p) e us i in
+      subst (λ z. item_before (right_item p u) z ≡ true) (sym r.2) (behind_equal (word_order u.label r.0.label) (nat_cmp p p) (nat_cmp u.to r.0.to) (nat_cmp-self p) (s.0 r.0 r.1))),
+  right_sorted p us s.1,
+)
+
+pub lefts_sorted : {V : Type 0} (A : Automaton V) (k : Pair) → AreInOrder A.transitions → IsAscending item_before (map (left_item k.1) (moves_from A.transitions k.0))
+lefts_sorted A k a = left_sorted k.1 (moves_from A.transitions k.0) (moves_by_move k.0 A.transitions a)
+
+pub rights_sorted : {V : Type 0} (B : Automaton V) (k : Pair) → AreInOrder B.transitions → IsAscending item_before (map (right_item k.0) (moves_from B.transitions k.1))
+rights_sorted B k b = right_sorted k.0 (moves_from B.transitions k.1) (moves_by_move k.1 B.transitions b)
+
 module _ (equal : (v w : Word) → (word_order v w ≡ Equal) ↔ (v ≡ w)) {V : Type 0} (R : WeightSet V) where
   same_label : (t u : Transition V) → t.label ≡ u.label → word_order t.label u.label ≡ Equal
   same_label t u e = (equal t.label u.label).1 e
@@ -94,13 +133,6 @@ module _ (equal : (v w : Word) → (word_order v w ≡ Equal) ↔ (v ≡ w)) {V 
       go : (b : Bool) → AreByMove (filter p us) → AreByMove (cond b (u ∷ filter p us) (filter p us))
       go true ih = ((λ v i. s.0 v (In-filter_from p v us i).0), ih)
       go false ih = ih
-
-  first_before : (a b c : Ordering) → ordering_then a b ≡ Less → is_lt (ordering_then a (ordering_then b c)) ≡ true
-  first_before Less b c h = refl
-  first_before Greater b c h = absurd (cc)
-  first_before Equal Less c h = refl
-  first_before Equal Equal c h = absurd (cc)
-  first_before Equal Greater c h = absurd (cc)
 
   items_sorted : (ts us : List (Transition V)) → AreByMove ts → AreByMove us → IsAscending item_before (both_items R ts us)
   items_sorted [] us a b = tt
@@ -140,35 +172,3 @@ module _ (equal : (v w : Word) → (word_order v w ≡ Equal) ↔ (v ≡ w)) {V 
 
   pub conjunction_once : (A B : Automaton V) (k : Pair) → AreInOrder A.transitions → AreInOrder B.transitions → NoRepeat (map item_key (conjunction_items R A B k))
   conjunction_once A B k a b = ordered_once (conjunction_items R A B k) (conjunction_sorted A B k a b)
-
-  -- the moves of one state, while the other stays
-  left_sorted : (q : ℕ) (ts : List (Transition V)) → AreByMove ts → IsAscending item_before (map (left_item q) ts)
-  left_sorted q [] s = tt
-  left_sorted q (t ∷ ts) s = (
-    (λ e i.
-        let r = In-map_from (left_item q) e ts i in
-        subst (λ z. item_before (left_item q t) z ≡ true) (sym r.2) (first_before (word_order t.label r.0.label) (nat_cmp t.to r.0.to) (nat_cmp q q) (s.0 r.0 r.1))),
-    left_sorted q ts s.1,
-  )
-
-  behind_equal : (a m c : Ordering) → m ≡ Equal → ordering_then a c ≡ Less → is_lt (ordering_then a (ordering_then m c)) ≡ true
-  behind_equal a Less c e h = absurd (cc)
-  behind_equal a Greater c e h = absurd (cc)
-  behind_equal Less Equal c e h = refl
-  behind_equal Greater Equal c e h = absurd (cc)
-  behind_equal Equal Equal c e h = ap is_lt h
-
-  right_sorted : (p : ℕ) (us : List (Transition V)) → AreByMove us → IsAscending item_before (map (right_item p) us)
-  right_sorted p [] s = tt
-  right_sorted p (u ∷ us) s = (
-    (λ e i.
-        let r = In-map_from (right_item p) e us i in
-        subst (λ z. item_before (right_item p u) z ≡ true) (sym r.2) (behind_equal (word_order u.label r.0.label) (nat_cmp p p) (nat_cmp u.to r.0.to) (nat_cmp-self p) (s.0 r.0 r.1))),
-    right_sorted p us s.1,
-  )
-
-  pub lefts_sorted : (A : Automaton V) (k : Pair) → AreInOrder A.transitions → IsAscending item_before (map (left_item k.1) (moves_from A.transitions k.0))
-  lefts_sorted A k a = left_sorted k.1 (moves_from A.transitions k.0) (moves_by_move k.0 A.transitions a)
-
-  pub rights_sorted : (B : Automaton V) (k : Pair) → AreInOrder B.transitions → IsAscending item_before (map (right_item k.0) (moves_from B.transitions k.1))
-  rights_sorted B k b = right_sorted k.0 (moves_from B.transitions k.1) (moves_by_move k.1 B.transitions b)

@@ -66,4 +66,4 @@ pub record IsNextMixed {V : Type 0} (R : WeightSet V) (k : Pair) (ts us : List (
   pub right : taken.1 ≤ length us
   pub some : 0 < taken.0 + taken.1
   pub sets : d.sets ≡ c.sets
-  pub from : from < length d.members
+  pub within : from < length d.members

@@ -9,7 +9,7 @@ mod pairs;
 mod runs;
 mod shuffled;
 mod weights;
-mod widen;
+mod wider;
 
 pub use conjoined::conjunction;
 pub use laws::{
@@ -17,4 +17,4 @@ pub use laws::{
     pairs_with_equal_labels_are_conjunctions, shuffled_items_are_in_order,
 };
 pub use shuffled::shuffle;
-pub use widen::widen;
+pub use wider::widen;

@@ -1,6 +1,8 @@
 use Rattle.std.proofs.Common.{◌≡◌, ap, ap₂, sym, ◌∙◌, subst, map, length}
 use Rattle.std.specs.Prelude.{OnOk, IfErr}
 use Rattle.vc_aut.specs.Stored.{transition_of}
+use Rattle.vc_label.specs.Sets.{IsOverSets}
+use Rattle.vc_model.specs.Automata.{Transition}
 use Rattle.vc_model.specs.Lists.{In}
 use Rattle.vc_aut.specs.Order.{moves_from}
 use Rattle.vc_search.specs.Courses.{IsStopped, led_all, targets}
@@ -34,7 +36,7 @@ meet_all-requires-clause-labels g c t i =
     let A = c.args.self.now.first.now.automaton in
     let p = c.args.key.0 in
     let ls : map T c.transitions_from-lefts.result.now ≡ moves_from A.transitions p = c.transitions_from-lefts.ensures ∙ ap (λ z. moves_from z.automaton.transitions p) c.automaton.ensures in
-    all_in A.transitions c.requires.over t (move_among A p t (subst (In t) ls i))
+    all_in (λ (u : Transition g.row.S-Value.Denot). IsOverSets c.args.into.now.sets u.label) A.transitions c.requires.over t (move_among A p t (subst (In t) ls i))
 
 pub meet_all-requires-clause-not_empty : goal.meet_all-requires-clause-not_empty
 meet_all-requires-clause-not_empty g c t i =

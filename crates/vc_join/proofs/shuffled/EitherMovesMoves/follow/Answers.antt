@@ -2,6 +2,8 @@ use Rattle.std.proofs.Common.{◌≡◌, ap, ap₂, sym, ◌∙◌, subst, map, 
 use Rattle.std.specs.Prelude.{OnOk, IfErr}
 use Rattle.vc_aut.specs.Order.{moves_from}
 use Rattle.vc_aut.specs.Stored.{transition_of}
+use Rattle.vc_label.specs.Sets.{IsOverSets}
+use Rattle.vc_model.specs.Automata.{Transition}
 use Rattle.vc_model.specs.Gathered.{IsAscending}
 use Rattle.vc_model.specs.Lists.{In}
 use Rattle.vc_search.specs.Courses.{IsStopped, led_all, targets}
@@ -36,7 +38,7 @@ mix_all-requires-clause-lefts_over g c t i =
     let A = c.args.self.now.first.now.automaton in
     let p = c.args.key.0 in
     let ls : map T c.transitions_from-lefts.result.now ≡ moves_from A.transitions p = c.transitions_from-lefts.ensures ∙ ap (λ z. moves_from z.automaton.transitions p) c.automaton.ensures in
-    all_in A.transitions c.requires.over.0 t (move_among A p t (subst (In t) ls i))
+    all_in (λ (u : Transition g.row.S-Value.Denot). IsOverSets c.args.into.now.sets u.label) A.transitions c.requires.over.0 t (move_among A p t (subst (In t) ls i))
 
 pub mix_all-requires-clause-rights_over : goal.mix_all-requires-clause-rights_over
 mix_all-requires-clause-rights_over g c t i =
@@ -44,7 +46,7 @@ mix_all-requires-clause-rights_over g c t i =
     let B = c.args.self.now.second.now.automaton in
     let q = c.args.key.1 in
     let rs : map T c.transitions_from-rights.result.now ≡ moves_from B.transitions q = c.transitions_from-rights.ensures ∙ ap (λ z. moves_from z.automaton.transitions q) c.automaton-2.ensures in
-    all_in B.transitions c.requires.over.1 t (move_among B q t (subst (In t) rs i))
+    all_in (λ (u : Transition g.row.S-Value.Denot). IsOverSets c.args.into.now.sets u.label) B.transitions c.requires.over.1 t (move_among B q t (subst (In t) rs i))
 
 pub mix_all-requires-clause-lefts_full : goal.mix_all-requires-clause-lefts_full
 mix_all-requires-clause-lefts_full g c t i =
