@@ -1,5 +1,5 @@
 -- Moves of either state of a pair, one after the other.
-use Rattle.std.proofs.Common.{◌≡◌, ◌<◌, ◌≤◌, ◌+◌, ℕ, List, [], ◌∷◌, map, Less, Equal, Greater, arith, length, drop, get_or, refl, sym, ap, ap₂, ◌∙◌, subst, inl, inr, false}
+use Rattle.std.proofs.Common.{◌≡◌, ◌<◌, ◌≤◌, ◌+◌, ℕ, List, [], ◌∷◌, map, Less, Equal, Greater, arith, length, drop, get_or, refl, sym, ap, ap₂, ◌∙◌, inl, inr, false}
 use Rattle.std.specs.Prelude.{◌↔◌, IfErr, Result, Ok, Err}
 use Rattle.std.specs.Cmp.{IsTotalOrder}
 use Rattle.vc_aut.specs.Order.{moves_from}
@@ -19,8 +19,8 @@ use Rattle.vc_search.specs.Courses.{Course, IsStopped, NoStep, led_all, targets}
 use Rattle.vc_search.specs.CourseLaws.{lead_stops, led_keeps}
 use Rattle.vc_join.specs.Orders.{item_before, item_order}
 use Rattle.vc_join.specs.Pairs.{Pair, same_states}
-use Rattle.vc_join.specs.Shuffles.{IsMixing, IsNextMixed, IsShuffleStep, first_order, insert_items, left_item, mixed_items, right_item, shuffle_items}
-use Rattle.vc_join.proofs.ItemOrder.{After, adds_first, after_all, goes_first, later, same_key, stays, turned_back}
+use Rattle.vc_join.specs.Shuffles.{IsMixing, IsNextMixed, IsShuffleStep, first_order, left_item, mixed_items, right_item, shuffle_items}
+use Rattle.vc_join.proofs.ItemOrder.{adds_first, after_all, goes_first, later, same_key, stays, turned_back}
 
 -- the state that moves next has a move
 pub left_some : {V : Type 0} (k : Pair) (ts us : List (Transition V)) → first_order k ts us ≡ Less → 0 < length ts
@@ -125,10 +125,29 @@ order_of_both k f [] us x y g h e r = absurd (omega (arith, g))
 order_of_both k f (t ∷ ts) [] x y g h e r = absurd (omega (arith, h))
 order_of_both {V} {X} k f (t ∷ ts) (u ∷ us) x y g h e r = ap₂ (λ (v w : X). item_order (left_item k.1 (f v)) (right_item k.0 (f w))) e r
 
--- what stands in front of a mapped list
-pub front_of : {X Y : Type 0} (f : X → Y) (xs : List X) (x : X) → 0 < length xs → x ≡ get_or xs 0 x → f x ≡ get_or (map f xs) 0 (f x)
-front_of f [] x h e = absurd (omega arith)
-front_of f (y ∷ xs) x h e = ap f e
+-- the move that is next is a member, and stands in front
+abbrev pub IsFront : {V : Type 0} → Transition V → List (Transition V) → Type 0
+IsFront t ts = In t ts × (t ≡ get_or ts 0 t)
+
+pub front_left : {V X : Type 0} (k : Pair) (f : X → Transition V) (ts us : List X) → first_order k (map f ts) (map f us) ≡ Less → (x : X) → x ≡ get_or ts 0 x → IsFront (f x) (map f ts)
+front_left k f [] us q x e = absurd (cc)
+front_left k f (t ∷ ts) us q x e = (inl (ap f e), ap f e)
+
+pub front_right : {V X : Type 0} (k : Pair) (f : X → Transition V) (ts us : List X) → 0 < length ts + length us → first_order k (map f ts) (map f us) ≡ Greater → (y : X) → y ≡ get_or us 0 y → IsFront (f y) (map f us)
+front_right k f [] [] s q y e = absurd (omega (arith, s))
+front_right k f (t ∷ ts) [] s q y e = absurd (cc)
+front_right k f ts (u ∷ us) s q y e = (inl (ap f e), ap f e)
+
+pub front_both : {V X : Type 0} (k : Pair) (f : X → Transition V) (ts us : List X) → first_order k (map f ts) (map f us) ≡ Equal → (x y : X) → x ≡ get_or ts 0 x → y ≡ get_or us 0 y → IsFront (f x) (map f ts) × IsFront (f y) (map f us)
+front_both k f [] us q x y e r = absurd (cc)
+front_both k f (t ∷ ts) [] q x y e r = absurd (cc)
+front_both k f (t ∷ ts) (u ∷ us) q x y e r = ((inl (ap f e), ap f e), (inl (ap f r), ap f r))
+
+-- where no state has a move left, nothing is left to do
+pub nothing_left : {V X : Type 0} (R : WeightSet V) (k : Pair) (f : X → Transition V) (ts us : List X) → length ts ≡ 0 → length us ≡ 0 → mixed_items R k (map f ts) (map f us) ≡ []
+nothing_left R k f [] [] h m = refl
+nothing_left R k f (t ∷ ts) us h m = absurd (omega (arith, h))
+nothing_left R k f [] (u ∷ us) h m = absurd (omega (arith, m))
 
 module _ {V : Type 0} (R : WeightSet V) where
   -- the sum of the weights of two moves does not fit

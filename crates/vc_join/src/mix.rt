@@ -209,9 +209,9 @@ pub(crate) fn mix_all<L: LabelSet, S: Semiring>(
     let mut right = rights;
     while !left.is_empty() || !right.is_empty() {
         match mix_next(alloc, pair, left, right, from, into) {
-            Ok((taken_left, taken_right)) => {
-                left = &left[taken_left..];
-                right = &right[taken_right..];
+            Ok(taken) => {
+                left = &left[taken.0..];
+                right = &right[taken.1..];
             }
             Err(fault) => return Err(fault),
         }
