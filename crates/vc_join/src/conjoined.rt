@@ -50,7 +50,12 @@ impl<'a, L: LabelSet, S: Semiring> Moves<L, S> for BothMoves<'a, L, S> {
     ghost same = { pairs_tell };
 
     fn begin(&self, into: &mut Exploration<L, S, Pair>) -> Result<(), MakeFault<S::Value>> {
-        begin_pairs(self.alloc, self.first.automaton(), self.second.automaton(), into)
+        begin_pairs(
+            self.alloc,
+            self.first.automaton(),
+            self.second.automaton(),
+            into,
+        )
     }
 
     fn follow(

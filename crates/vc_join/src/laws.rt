@@ -1,5 +1,5 @@
 //! What products of pairs are.
-ghost use Rattle.std.specs.Prelude.{◌≡◌, ℕ, Bool, List, map};
+ghost use Rattle.std.specs.Prelude.{ℕ, Bool, map};
 ghost use Rattle.vc_aut.specs.Order.{AreInOrder, moves_from};
 ghost use Rattle.vc_join.specs.Conjunctions.{conjunction_items};
 ghost use Rattle.vc_join.specs.Orders.{item_before};

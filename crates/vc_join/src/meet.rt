@@ -13,8 +13,8 @@ ghost use Rattle.vc_ring.specs.declared.faults.Overflow.TheVariants.{Mul};
 ghost use Rattle.vc_search.specs.Courses.{IsStopped, led_all, targets};
 
 use crate::pairs::Pair;
-use crate::weights::product;
 use crate::runs::{from_label, run_of};
+use crate::weights::product;
 use std::alloc::{AllocError, Global};
 use vc_aut::Transition;
 use vc_label::{LabelSet, words_are_ordered};

@@ -63,8 +63,11 @@ fn lead_by_both<L: LabelSet, S: Semiring>(
     requires left_in { IsTrue (S.set.in_range left.now.weight) }
     requires right_in { IsTrue (S.set.in_range right.now.weight) }
     ensures ok { OnOk result (into.new ≡ led_all same_states from into.old
-        (record { label = L.parts left.now.label;
-        weight = S.set.plus left.now.weight right.now.weight; to = to } ∷ [])) }
+        (record {
+          label = L.parts left.now.label;
+          weight = S.set.plus left.now.weight right.now.weight;
+          to = to;
+        } ∷ [])) }
     ensures fault { IfErr result (IsStopped same_states
         (λ o. (o ≡ Add left.now.weight right.now.weight) × (fits S.set o ≡ false)) into.old
         (to ∷ []) 1) }

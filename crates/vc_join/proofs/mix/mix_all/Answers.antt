@@ -60,7 +60,7 @@ returns-in-Err-clause-fault g c =
 
 pub returns-clause-ok : goal.returns-clause-ok
 returns-clause-ok g c =
-    let T = transition_of g.L.LabelSet.parts in
     let no_left : length c.loop-left.left.now ≡ 0 = search rules in
     let no_right : length c.loop-left.right.now ≡ 0 = search rules in
+    let T = transition_of g.L.LabelSet.parts in
     ap (led_all same_states c.args.from c.loop-left.into) (sym (nothing_left g.S.Semiring.set c.args.pair T c.loop-left.left.now c.loop-left.right.now no_left no_right)) ∙ c.loop-left.invariant.rest
