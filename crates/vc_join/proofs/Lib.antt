@@ -1,0 +1,14 @@
+pub mod Alike
+pub mod Among
+pub mod Beginnings
+pub mod Conjoining
+pub mod Fronts
+pub mod ItemOrder
+pub mod Meeting
+pub mod MixedStates
+pub mod Mixing
+pub mod PlaceSums
+pub mod Shuffling
+pub mod Singles
+pub mod Sorted
+pub mod Steps

@@ -1,0 +1,10 @@
+pub mod Among
+pub mod Built
+pub mod FollowedLaws
+pub mod Growing
+pub mod Numberings
+pub mod Numbers
+pub mod Standing
+pub mod Sums
+pub mod Triples
+pub mod Weighing
