@@ -1,5 +1,5 @@
 -- What each command answers is lawful: a line for each command.
-use Rattle.std.proofs.Common.{◌≡◌, ◌∙◌, ℕ, List, Bool, true, false, ℤ, Option, None, Some, Result, Ok, Err, refl, sym, ap, ap₂, subst, inl, inr}
+use Rattle.std.proofs.Common.{◌≡◌, ◌∙◌, ℕ, List, [], ◌∷◌, ◌||◌, Bool, true, false, ℤ, Option, None, Some, Result, Ok, Err, refl, sym, ap, ap₂, subst, inl, inr}
 use Rattle.std.specs.Prelude.{nat_lt, if◌then◌else◌}
 use Rattle.std.specs.Cmp.{IsTotalOrder}
 use Rattle.vc_aut.specs.Labelled.{Labelled}
@@ -7,7 +7,10 @@ use Rattle.vc_basic.specs.ResidueLaws.{residue_laws}
 use Rattle.vc_basic.specs.TropicalLaws.{tropical_laws}
 use Rattle.vc_basic.specs.TruthLaws.{truth_laws}
 use Rattle.vc_basic.specs.WholeLaws.{whole_laws}
+use Rattle.vc_label.specs.Alphabets.{has_letter}
 use Rattle.vc_label.specs.Order.{word_order}
+use Rattle.vc_label.specs.declared.alphabet.Alphabet.{Alphabet}
+use Rattle.vc_label.specs.declared.tape_set.TapeKind.{TapeKind}
 use Rattle.vc_rat.specs.RationalLaws.{rational_laws}
 use Rattle.vc_command.specs.Requests.{Asked}
 use Rattle.vc_command.specs.Requests as asked
@@ -20,7 +23,9 @@ use Rattle.vc_files.specs.Files.{Bytes}
 use Rattle.vc_label.specs.declared.tape_set.TapeSet.{TapeSet}
 use Rattle.vc_basic.specs.declared.tropical.NminValue.{NminValue}
 use Rattle.vc_context.specs.declared.context.Weights.TheVariants.{B, F2, Z, Q, Nmin}
-use Rattle.vc_model.specs.Automata.{Automaton}
+use Rattle.vc_model.specs.Automata.{Automaton, coefficient}
+use Rattle.vc_model.specs.Series.{Series}
+use Rattle.vc_model.specs.WeightSet.{SemiringLaws}
 use Rattle.vc_rat.specs.declared.fraction.Fraction.{Fraction}
 use Rattle.vc_terms.specs.Terms.{Term}
 use Rattle.vc_model.specs.Words.{Word}
@@ -28,7 +33,7 @@ use Rattle.vc_ring.specs.Texts.{WeightTexts}
 use Rattle.vc_ring.specs.declared.faults.Limit.{Limit as PastLimit}
 use Rattle.vc_ring.specs.declared.faults.MakeFault.{MakeFault}
 use Rattle.vc_ring.specs.declared.faults.MakeFault.TheVariants as fault
-use Rattle.vc_ring.specs.declared.faults.Measure.TheVariants.{Cells, States, Bytes as BytesOf}
+use Rattle.vc_ring.specs.declared.faults.Measure.TheVariants.{Cells, Closure, Depth, Nodes, States, Transitions, Bytes as BytesOf}
 use Rattle.vc_top.specs.Answers.{IsPastReason}
 use Rattle.vc_top.specs.Automata.{IsTextOf, Prints}
 use Rattle.vc_top.specs.Contexts.{AnswersContext, IsContext}
@@ -36,16 +41,20 @@ use Rattle.vc_top.specs.Evaluations.{AnswersEval, AnswersValue, ReadsWord, cells
 use Rattle.vc_top.specs.Expressions.{AnswersExpr, AnswersExprOver, IsExpressionText, PrintsExpression, ReadsExpression, are_single, text_reason}
 use Rattle.vc_top.specs.Inputs.{Input}
 use Rattle.vc_top.specs.Operations.{AnswersPrint, IsOfClosing, IsProperOf, IsTrimOf, IsUnclosed, WithProper}
-use Rattle.vc_top.specs.Outcomes.{Gives, Outcome}
+use Rattle.vc_top.specs.Outcomes.{ForSuch, Gives, Outcome, Unless}
 use Rattle.vc_top.specs.Plans.{IsLoose, IsOpen, Plan, of_file, of_files, of_texts, plan_of, unbuilt}
-use Rattle.vc_top.specs.Reasons.{Reason, empty_circuit, in_context, in_word, limit, no_label, overflow, syntax, unread, unwritten, usage}
+use Rattle.vc_top.specs.Products.{AnswersProduct, AreJoint, HasManyPairs, IsProductOf, IsUnjoined, Operands, WithProduct, joint_kind, operands_of}
+use Rattle.vc_top.specs.Reasons.{Reason, contexts, empty_circuit, in_context, in_word, limit, no_label, no_memory, no_star, order, overflow, syntax, unread, unwritten, usage}
 use Rattle.vc_top.specs.Refused.{UnlessCause, make_reason}
 use Rattle.vc_top.specs.Sets.{absorbs, texts_of, value_of, truth_weights, residue_weights, whole_weights, fraction_weights, tropical_weights}
 use Rattle.vc_top.specs.Standards.{AnswersEvalText, AnswersStandard, IsOfConstruction, IsStandard, IsUnmade, WithStandard, most_states}
 use Rattle.vc_top.specs.declared.operation.Operation.TheVariants as operation
-use Rattle.vc_top.specs.declared.refusal.Bound.TheVariants.{Of}
-use Rattle.vc_top.proofs.Lawful.{Alike, Freedom, IsKept, IsLawful, after, any, decided, for_such, gives, may, unless, with_one}
+use Rattle.vc_top.specs.declared.product.Product.{Product}
+use Rattle.vc_top.specs.declared.product.Product.TheVariants.{Conjunction, Shuffle}
+use Rattle.vc_top.specs.declared.refusal.Bound.TheVariants.{Of, Words}
+use Rattle.vc_top.proofs.Lawful.{Alike, Freedom, IsKept, IsLawful, after, any, decided, for_such, gives, may, unless, with_one, with_some}
 use Rattle.vc_top.proofs.OneMade.{proper_once, trim_once}
+use Rattle.vc_top.proofs.OneProduct.{OneNumbering, product_once}
 use Rattle.vc_top.proofs.OneStandard.{standard_once}
 
 -- the reasons of what is read in words, and of operations; a text may have too many bytes
@@ -93,16 +102,22 @@ OneWord = (text : Bytes) (v w : Word) → SpellsWord text v → SpellsWord text 
 abbrev pub OneAnswer : Type 0 → Type 0
 OneAnswer V = (T : WeightTexts V) (single : Bool) (sets : List TapeSet) (text : Bytes) (a b : Result (Term V) (TextRefusal V)) → IsRead T single sets text a → IsRead T single sets text b → a ≡ b
 
--- a text spells at most one context, and at most one word; as an expression it has at most one answer
+-- alphabets with the same letters are the same
+abbrev pub OneAlphabet : Type 0
+OneAlphabet = (s t : Alphabet) → ((x : ℕ) → has_letter s x ≡ has_letter t x) → s ≡ t
+
+-- a text spells at most one context, and at most one word; as an expression it has at most one answer; alphabets and numberings are told by their members
 pub record AreTexts : Type 0 where
   pub total : IsTotalOrder word_order
+  pub alphabets : OneAlphabet
+  pub numberings : OneNumbering
   pub context : (text : Bytes) (c d : List TapeSet × Weights) → IsContext text c → IsContext text d → c ≡ d
   pub word : OneWord
   pub expression : (w : Weights) → OneAnswer (value_of w)
 
-pub texts_are : ((text : Bytes) (sets others : List TapeSet) (weights other : Weights) → SpellsContext text sets weights → SpellsContext text others other → (sets ≡ others) × (weights ≡ other)) → IsTotalOrder word_order → OneWord
+pub texts_are : ((text : Bytes) (sets others : List TapeSet) (weights other : Weights) → SpellsContext text sets weights → SpellsContext text others other → (sets ≡ others) × (weights ≡ other)) → IsTotalOrder word_order → OneAlphabet → OneNumbering → OneWord
     → OneAnswer Bool → OneAnswer ℤ → OneAnswer Fraction → OneAnswer NminValue → AreTexts
-texts_are context total word truths wholes fractions costs = record { total = total; context = one_context context; word = word; expression = expression }
+texts_are context total alphabets numberings word truths wholes fractions costs = record { total = total; alphabets = alphabets; numberings = numberings; context = one_context context; word = word; expression = expression }
   where
     expression : (w : Weights) → OneAnswer (value_of w)
     expression B = truths
@@ -180,16 +195,20 @@ module _ {V : Type 0} (T : WeightTexts V) (one : OneAnswer V) (sets : List TapeS
 expr : (Open : Freedom) → AreTexts → (over text : Bytes) → IsLawful IsWordReason Open (AnswersExpr over text)
 expr Open one over text = with_one IsWordReason Open (IsContext over) (syntax in_context) _ (one.context over) tt (λ c. expr_over (texts_of c.1) (one.expression c.1) c.0 text Open)
 
+-- the laws of the set of the name
+laws_of : (w : Weights) → SemiringLaws (texts_of w).set
+laws_of B = truth_laws
+laws_of F2 = residue_laws
+laws_of Z = whole_laws
+laws_of Q = rational_laws
+laws_of Nmin = tropical_laws
+
 -- an expression has one standard automaton over these elements
 abbrev OneStandardOver : {V : Type 0} → WeightTexts V → Type 0
 OneStandardOver {V} T = (sets : List TapeSet) (t : Term V) (a b : Labelled V) → IsStandard T sets t a → IsStandard T sets t b → a ≡ b
 
 one_standard : IsTotalOrder word_order → (w : Weights) → OneStandardOver (texts_of w)
-one_standard total B = standard_once truth_weights truth_laws total
-one_standard total F2 = standard_once residue_weights residue_laws total
-one_standard total Z = standard_once whole_weights whole_laws total
-one_standard total Q = standard_once fraction_weights rational_laws total
-one_standard total Nmin = standard_once tropical_weights tropical_laws total
+one_standard total w = standard_once (texts_of w) (laws_of w) total
 
 -- commands over the standard automaton of an expression
 module _ (Open : Freedom) (loose : (r : Reason) → IsOfConstruction r → Open.refusals r) where
@@ -226,40 +245,104 @@ abbrev OneProperOver : {V : Type 0} → WeightTexts V → Type 0
 OneProperOver {V} T = (a p q : Labelled V) → IsProperOf T a p → IsProperOf T a q → p ≡ q
 
 one_proper : IsTotalOrder word_order → (w : Weights) → OneProperOver (texts_of w)
-one_proper total B = proper_once truth_weights truth_laws total
-one_proper total F2 = proper_once residue_weights residue_laws total
-one_proper total Z = proper_once whole_weights whole_laws total
-one_proper total Q = proper_once fraction_weights rational_laws total
-one_proper total Nmin = proper_once tropical_weights tropical_laws total
+one_proper total w = proper_once (texts_of w) (laws_of w) total
+
+-- what is past its bounds is no fault of a text that was read
+past_text : (r : Reason) → IsPastReason r → IsTextReason r
+past_text overflow h = tt
+past_text empty_circuit h = tt
+past_text (limit (Of BytesOf)) h = absurd h
+past_text (limit (Of Depth)) h = tt
+past_text (limit (Of States)) h = tt
+past_text (limit (Of Transitions)) h = tt
+past_text (limit (Of Closure)) h = tt
+past_text (limit (Of Cells)) h = tt
+past_text (limit (Of Nodes)) h = tt
+past_text (limit Words) h = tt
+past_text usage h = absurd h
+past_text (unread file) h = absurd h
+past_text unwritten h = absurd h
+past_text (syntax at) h = absurd h
+past_text (no_label at) h = absurd h
+past_text no_star h = absurd h
+past_text contexts h = absurd h
+past_text order h = absurd h
+past_text no_memory h = absurd h
+
+abbrev one_set : TapeSet → List TapeSet
+one_set s = s ∷ []
+
+abbrev tape_set : TapeKind → Alphabet → TapeSet
+tape_set kind alphabet = record { kind = kind; alphabet = alphabet }
+
+-- the label sets of a product are determined
+joint_once : OneAlphabet → (ss ts us vs : List TapeSet) → AreJoint ss ts us → AreJoint ss ts vs → us ≡ vs
+joint_once one ss ts us vs p q =
+    let e = same_one p.first q.first (sym p.is_first ∙ q.is_first) in
+    let f = same_one p.second q.second (sym p.is_second ∙ q.is_second) in
+    let kind = p.kind ∙ ap₂ (λ (s t : TapeSet). joint_kind s.kind t.kind) e f ∙ sym q.kind in
+    let alphabet = one p.joint.alphabet q.joint.alphabet (λ x. p.letters x ∙ ap₂ (λ (s t : TapeSet). has_letter s.alphabet x || has_letter t.alphabet x) e f ∙ sym (q.letters x)) in
+    p.is_joint ∙ ap (λ s. s ∷ []) (ap₂ (λ k a. tape_set k a) kind alphabet) ∙ sym q.is_joint
+  where
+    same_one : (s t : TapeSet) → one_set s ≡ one_set t → s ≡ t
+    same_one s t e = cc e
 
 -- commands over the automaton of a file, and over the one without empty labels
 module _ (Open : Freedom) (loose : (r : Reason) → IsOfClosing r → Open.refusals r) where
-  module _ {V : Type 0} (T : WeightTexts V) (one : OneProperOver T) (is_absorbing : Bool) (a : Labelled V) where
-    unclosed_kept : (r : Reason) → IsUnclosed T a r → IsTextReason r
-    unclosed_kept r (inl p) = subst IsTextReason (sym p.0) tt
-    unclosed_kept r (inr (inl p)) = subst IsTextReason (sym p.0) tt
-    unclosed_kept r (inr (inr p)) = subst IsTextReason (sym p.0) tt
-
+  -- the removal of empty labels is refused for reasons that are past bounds
+  module _ {V : Type 0} (T : WeightTexts V) (one : OneProperOver T) (is_absorbing : Bool) (a : Labelled V) (Own : Reason → Type 0) (own : (r : Reason) → IsPastReason r → Own r) where
     unclosed_past : (r : Reason) → IsUnclosed T a r → IsPastReason r × Open.refusals r
     unclosed_past r (inl p) = (subst IsPastReason (sym p.0) tt, loose r (subst IsOfClosing (sym p.0) tt))
     unclosed_past r (inr (inl p)) = (subst IsPastReason (sym p.0) tt, loose r (subst IsOfClosing (sym p.0) tt))
     unclosed_past r (inr (inr p)) = (subst IsPastReason (sym p.0) tt, loose r (subst IsOfClosing (sym p.0) tt))
 
-    with_proper : (rest : Labelled V → Outcome Bytes) → ((p : Labelled V) → IsLawful IsPastReason Open (rest p)) → ((p : Labelled V) → IsLawful IsTextReason Open (rest p)) → IsLawful IsTextReason Open (WithProper T is_absorbing a rest)
+    with_proper : (rest : Labelled V → Outcome Bytes) → ((p : Labelled V) → IsLawful IsPastReason Open (rest p)) → ((p : Labelled V) → IsLawful Own Open (rest p)) → IsLawful Own Open (WithProper T is_absorbing a rest)
     with_proper rest past l =
-        unless IsTextReason Open _ empty_circuit _ tt (
-        may IsTextReason Open (IsUnclosed T a) _ unclosed_kept unclosed_past (λ x p. (past p.0).kept x p.2) (for_such IsTextReason Open (IsProperOf T a) rest (one a) l))
+        unless Own Open _ empty_circuit _ (own empty_circuit tt) (
+        may Own Open (IsUnclosed T a) _ (λ r c. own r (unclosed_past r c).0) unclosed_past (λ x p. (past p.0).kept x p.2) (for_such Own Open (IsProperOf T a) rest (one a) l))
+
+  -- so is a product
+  module _ {V : Type 0} (T : WeightTexts V) (one : (product : Product) (most : ℕ) (sets : List TapeSet) (f g : Series V) (a b : Automaton V) (p q : Labelled V) → IsProductOf T product most sets f g a b p → IsProductOf T product most sets f g a b q → p ≡ q)
+      (product : Product) (most : ℕ) (sets : List TapeSet) (f g : Series V) (a b : Automaton V) where
+    unjoined_past : (r : Reason) → IsUnjoined T product most a b r → IsPastReason r × Open.refusals r
+    unjoined_past r (inl p) = (subst IsPastReason (sym p.0) tt, loose r (subst IsOfClosing (sym p.0) tt))
+    unjoined_past r (inr p) = (subst IsPastReason (sym p.0) tt, loose r (subst IsOfClosing (sym p.0) tt))
+
+    few : (Own : Reason → Type 0) → Own (limit (Of States)) → (rest : Labelled V → Outcome Bytes) → ((p : Labelled V) → IsLawful Own Open (rest p))
+        → IsLawful Own Open (Unless (HasManyPairs T product most a b) (limit (Of States)) (ForSuch (IsProductOf T product most sets f g a b) rest))
+    few Own o rest l = unless Own Open _ (limit (Of States)) _ o (for_such Own Open (IsProductOf T product most sets f g a b) rest (one product most sets f g a b) l)
+
+    with_product : (Own : Reason → Type 0) → ((r : Reason) → IsPastReason r → Own r) → (rest : Labelled V → Outcome Bytes) → ((p : Labelled V) → IsLawful IsPastReason Open (rest p)) → ((p : Labelled V) → IsLawful Own Open (rest p))
+        → IsLawful Own Open (WithProduct T product most sets f g a b rest)
+    with_product Own own rest past l =
+        may Own Open (IsUnjoined T product most a b) _ (λ r c. own r (unjoined_past r c).0) unjoined_past (few IsPastReason tt rest past).kept (few Own (own (limit (Of States)) tt) rest l)
 
   proper : AreTexts → (x : Input) → IsLawful IsTextReason Open (AnswersPrint operation.Proper x)
   proper texts x =
-      with_proper (texts_of x.weights) (one_proper texts.total x.weights) (absorbs x.weights) x.of _
+      with_proper (texts_of x.weights) (one_proper texts.total x.weights) (absorbs x.weights) x.of IsTextReason past_text _
       (prints IsPastReason Open (texts_of x.weights) x.weights) (prints IsTextReason Open (texts_of x.weights) x.weights)
 
   eval : AreTexts → (text : Bytes) (x : Input) → IsLawful IsTextReason Open (AnswersEval text x)
   eval texts text x =
       after IsTextReason Open (ReadsWord x.of.sets text) _ (word IsTextReason decided tt tt texts.word x.of.sets text) (λ w.
-      with_proper (texts_of x.weights) (one_proper texts.total x.weights) (absorbs x.weights) x.of _
+      with_proper (texts_of x.weights) (one_proper texts.total x.weights) (absorbs x.weights) x.of IsTextReason past_text _
       (valued IsPastReason Open (texts_of x.weights) tt tt w _) (valued IsTextReason Open (texts_of x.weights) tt tt w _))
+
+  product : AreTexts → (kind : Product) (most : ℕ) (x y : Input) → IsLawful IsTextReason Open (AnswersProduct kind most x y)
+  product texts kind most x y =
+      with_some IsTextReason Open (operands_of x y) contexts _ tt (λ o.
+      with_one IsTextReason Open (AreJoint o.first.sets o.second.sets) contexts _ (joint_once texts.alphabets o.first.sets o.second.sets) tt (λ sets.
+      with_proper (texts_of o.weights) (one_proper texts.total o.weights) (absorbs o.weights) o.first IsTextReason past_text _ (second o sets IsPastReason (λ r h. h)) (second o sets IsTextReason past_text)))
+    where
+      second : (o : Operands) (sets : List TapeSet) (Own : Reason → Type 0) → ((r : Reason) → IsPastReason r → Own r) → (p : Labelled (value_of o.weights)) → IsLawful Own Open (WithProper (texts_of o.weights) (absorbs o.weights) o.second (λ q.
+          WithProduct (texts_of o.weights) kind most sets (coefficient (texts_of o.weights).set o.first.automaton) (coefficient (texts_of o.weights).set o.second.automaton) p.automaton q.automaton (Prints (texts_of o.weights) o.weights)))
+      second o sets Own own p =
+          let T = texts_of o.weights in
+          let once = product_once T (laws_of o.weights) texts.total texts.numberings in
+          let printed = λ (Of : Reason → Type 0). prints Of Open T o.weights in
+          with_proper T (one_proper texts.total o.weights) (absorbs o.weights) o.second Own own _
+          (λ q. with_product T once kind most sets _ _ p.automaton q.automaton IsPastReason (λ r h. h) _ (printed IsPastReason) (printed IsPastReason))
+          (λ q. with_product T once kind most sets _ _ p.automaton q.automaton Own own _ (printed IsPastReason) (printed Own))
 
 module _ (Open : Freedom) where
   cat : (x : Input) → IsLawful IsTextReason Open (AnswersPrint operation.Itself x)
@@ -290,4 +373,6 @@ plans_are_lawful one (Some (asked.trim file)) = trim _
 plans_are_lawful one (Some (asked.eval_file file text)) = eval _ (λ r o. o) one text
 plans_are_lawful one (Some (asked.eval_expr over text second)) = eval_text _ (λ r o. o) one over text second
 plans_are_lawful one (Some (asked.standard over text most)) = standard _ (λ r o. o) one over text most
+plans_are_lawful one (Some (asked.conjunction first second most)) = product _ (λ r o. o) one Conjunction most
+plans_are_lawful one (Some (asked.shuffle first second most)) = product _ (λ r o. o) one Shuffle most
 plans_are_lawful one other = tt

@@ -12,6 +12,9 @@ pub mod OneMade
 pub mod Sounded
 pub mod Failed
 pub mod Planned
+pub mod OneProduct
+pub mod Joined
+pub mod TwoFiles
 pub mod Lawful
 pub mod Parts
 pub mod Commands

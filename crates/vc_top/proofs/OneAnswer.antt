@@ -37,8 +37,9 @@ use Rattle.vc_top.specs.Reasons.{Reason, empty_circuit, in_line, limit, no_label
 use Rattle.vc_top.specs.Seen.{Seen, seen}
 use Rattle.vc_top.specs.Sets.{absorbs, texts_of, truth_weights, residue_weights, whole_weights, fraction_weights, tropical_weights}
 use Rattle.vc_top.specs.declared.refusal.Bound.TheVariants.{Of}
-use Rattle.vc_top.proofs.Commands.{IsLawfulPlan, OneAnswer, OneWord, freedom_of, plans_are_lawful, texts_are}
+use Rattle.vc_top.proofs.Commands.{IsLawfulPlan, OneAlphabet, OneAnswer, OneWord, freedom_of, plans_are_lawful, texts_are}
 use Rattle.vc_top.proofs.Lawful.{Alike, Freedom, IsKept, IsLawful, after, any, decided, for_such, gives, unless, with_one}
+use Rattle.vc_top.proofs.OneProduct.{OneNumbering}
 use Rattle.vc_top.proofs.Parts.{AgreeBy, after_part, of_part}
 
 -- any reason
@@ -104,7 +105,7 @@ headed h sets weights = record { head = h; sets = sets; weights = weights }
 module _
     (read : (line text : Bytes) → IsContextLine line text → context_in_line line ≡ Some text)
     (contexts : (text : Bytes) (sets others : List TapeSet) (weights other : Weights) → SpellsContext text sets weights → SpellsContext text others other → (sets ≡ others) × (weights ≡ other))
-    (total : IsTotalOrder word_order)
+    (total : IsTotalOrder word_order) (alphabets : OneAlphabet) (numberings : OneNumbering)
     (words : OneWord)
     (truth_texts : OneAnswer Bool) (whole_texts : OneAnswer ℤ) (fraction_texts : OneAnswer Fraction) (cost_texts : OneAnswer NminValue)
     (truths : OneAutomaton Bool) (wholes : OneAutomaton ℤ) (fractions : OneAutomaton Fraction) (costs : OneAutomaton NminValue)
@@ -165,4 +166,4 @@ module _
     pub determined : (request : Option Asked) (a b : Answer) → Allows request s a → Allows request s b → Agree request s a b
     determined request a b (inl m) q = inl (inl (subst IsFree (sym m) tt))
     determined request a b p (inl m) = inl (inr (subst IsFree (sym m) tt))
-    determined request a b (inr p) (inr q) = answers (freedom_of request) (plan_of request) (plans_are_lawful (texts_are contexts total words truth_texts whole_texts fraction_texts cost_texts) request) a b p q
+    determined request a b (inr p) (inr q) = answers (freedom_of request) (plan_of request) (plans_are_lawful (texts_are contexts total alphabets numberings words truth_texts whole_texts fraction_texts cost_texts) request) a b p q

@@ -8,13 +8,16 @@ use Rattle.vc_top.specs.Expressions.{AnswersExpr}
 use Rattle.vc_top.specs.Inputs.{Input}
 use Rattle.vc_top.specs.Operations.{AnswersPrint}
 use Rattle.vc_top.specs.Outcomes.{Answer, Outcome}
-use Rattle.vc_top.specs.Plans.{Plan, of_file, of_texts, unbuilt}
+use Rattle.vc_top.specs.Plans.{Plan, of_file, of_files, of_texts, unbuilt}
+use Rattle.vc_top.specs.Products.{AnswersProduct}
 use Rattle.vc_top.specs.Reasons.{usage}
 use Rattle.vc_top.specs.Standards.{AnswersEvalText, AnswersStandard}
 use Rattle.vc_top.specs.declared.plan.FileCommand.{FileCommand}
 use Rattle.vc_top.specs.declared.plan.FileCommand.TheVariants.{Print, Eval}
+use Rattle.vc_top.specs.declared.plan.FilesCommand.{FilesCommand}
+use Rattle.vc_top.specs.declared.plan.FilesCommand.TheVariants.{Join}
 use Rattle.vc_top.specs.declared.plan.Plan.{Plan as Code}
-use Rattle.vc_top.specs.declared.plan.Plan.TheVariants.{Texts, File}
+use Rattle.vc_top.specs.declared.plan.Plan.TheVariants.{Texts, File, Files}
 use Rattle.vc_top.specs.declared.plan.TextCommand.{TextCommand}
 use Rattle.vc_top.specs.declared.plan.TextCommand.TheVariants.{Unbuilt, Context, Expr, Eval as EvalText, Standard}
 
@@ -31,19 +34,30 @@ abbrev pub IsWithin : TextCommand → Type 0
 IsWithin (Standard over text most) = IsLimit most
 IsWithin other = ⊤
 
--- the same of a command that reads no file
+-- the same of a command that reads two files
+abbrev pub AreWithin : FilesCommand → Type 0
+AreWithin (Join product most) = IsLimit most
+
+-- the same of the command of a plan
 abbrev pub HasLimits : Code → Type 0
 HasLimits (Texts command) = IsWithin command
-HasLimits other = ⊤
+HasLimits (File name command) = ⊤
+HasLimits (Files first second command) = AreWithin command
 
 -- a command, to the automaton of its file
 abbrev pub AnswersFile : FileCommand → Input → Outcome Bytes
 AnswersFile (Print operation) = AnswersPrint operation
 AnswersFile (Eval word) = AnswersEval word.now
 
+-- a command, to the automata of its two files
+abbrev pub AnswersFiles : FilesCommand → Input → Input → Outcome Bytes
+AnswersFiles (Join product most) = AnswersProduct product most
+
 -- the code reads the files of this plan, and each answer of its command is one of the plan
 abbrev pub IsPlan : Code → Plan → Type 0
 IsPlan (Texts command) unbuilt = (answer : Answer) → AnswersTexts command answer → answer ≡ Err usage
 IsPlan (Texts command) (of_texts texts) = (answer : Answer) → AnswersTexts command answer → texts answer
 IsPlan (File name command) (of_file file rest) = (file ≡ name.now) × ((x : Input) (answer : Answer) → AnswersFile command x answer → rest x answer)
+IsPlan (Files first second command) (of_files a b rest) =
+    (a ≡ first.now) × (b ≡ second.now) × ((x y : Input) (answer : Answer) → AnswersFiles command x y answer → rest x y answer)
 IsPlan code plan = ⊥

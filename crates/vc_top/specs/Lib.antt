@@ -11,6 +11,7 @@ pub mod Operations
 pub mod Evaluations
 pub mod Expressions
 pub mod Standards
+pub mod Products
 pub mod Plans
 pub mod Answers
 pub mod Messages

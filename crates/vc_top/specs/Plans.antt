@@ -1,6 +1,6 @@
 -- What each request wants: a line for each command.
 use Rattle.std.specs.Prelude.{◌≡◌, List, [], ◌∷◌, Option, Some, Err, ⊤}
-use Rattle.vc_command.specs.Requests.{Asked, context, expr, cat, eval_file, eval_expr, standard, proper, trim}
+use Rattle.vc_command.specs.Requests.{Asked, context, expr, cat, eval_file, eval_expr, standard, proper, trim, conjunction, shuffle}
 use Rattle.vc_files.specs.Files.{Bytes}
 use Rattle.vc_top.specs.Contexts.{AnswersContext}
 use Rattle.vc_top.specs.Evaluations.{AnswersEval}
@@ -8,10 +8,12 @@ use Rattle.vc_top.specs.Expressions.{AnswersExpr}
 use Rattle.vc_top.specs.Inputs.{Input, ReadsFile}
 use Rattle.vc_top.specs.Operations.{AnswersPrint, IsOfClosing}
 use Rattle.vc_top.specs.Outcomes.{Outcome, Then}
+use Rattle.vc_top.specs.Products.{AnswersProduct}
 use Rattle.vc_top.specs.Reasons.{Reason, usage}
 use Rattle.vc_top.specs.Seen.{Seen}
 use Rattle.vc_top.specs.Standards.{AnswersEvalText, AnswersStandard, IsOfConstruction}
 use Rattle.vc_top.specs.declared.operation.Operation.TheVariants.{Itself, Proper, Trim}
+use Rattle.vc_top.specs.declared.product.Product.TheVariants.{Conjunction, Shuffle}
 
 -- which files are read, and what is answered to them
 pub data Plan : Type 1 where
@@ -29,6 +31,8 @@ plan_of (Some (eval_expr over text word)) = of_texts (AnswersEvalText over text 
 plan_of (Some (standard over text most)) = of_texts (AnswersStandard over text most)
 plan_of (Some (proper file)) = of_file file (AnswersPrint Proper)
 plan_of (Some (trim file)) = of_file file (AnswersPrint Trim)
+plan_of (Some (conjunction first second most)) = of_files first second (AnswersProduct Conjunction most)
+plan_of (Some (shuffle first second most)) = of_files first second (AnswersProduct Shuffle most)
 plan_of other = unbuilt
 
 -- requests whose text is not determined, so that any may be printed that is allowed: there is none among the commands that are built
@@ -41,6 +45,8 @@ IsLoose (Some (eval_expr over text word)) reason = IsOfConstruction reason
 IsLoose (Some (standard over text most)) reason = IsOfConstruction reason
 IsLoose (Some (eval_file file word)) reason = IsOfClosing reason
 IsLoose (Some (proper file)) reason = IsOfClosing reason
+IsLoose (Some (conjunction first second most)) reason = IsOfClosing reason
+IsLoose (Some (shuffle first second most)) reason = IsOfClosing reason
 IsLoose other reason = ⊥
 
 -- the answers of a plan; a command that is not built is `Usage`

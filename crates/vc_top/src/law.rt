@@ -12,8 +12,9 @@ use vc_daut::{
 };
 use vc_exprio::{texts_have_one_answer, texts_spell_one_word};
 use vc_files::names_have_one_file;
-use vc_label::words_are_ordered;
+use vc_label::{alphabets_are_sets, words_are_ordered};
 use vc_rat::Fraction;
+use vc_search::members_are_few;
 
 /// Over files that tell their bytes, a request allows one answer alone, but for faults of reading
 /// and want of memory; and where a number does not fit and a limit is passed in one file, or in
@@ -36,6 +37,8 @@ pub fn answers_are_determined()
     texts_have_one_answer::<i128>();
     texts_have_one_answer::<Fraction>();
     texts_have_one_answer::<NminValue>();
+    alphabets_are_sets();
+    members_are_few::<(u32, u32)>();
     context_lines_have_one_text();
     texts_spell_one_automaton::<bool>();
     texts_spell_one_automaton::<i128>();

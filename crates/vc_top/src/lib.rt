@@ -10,6 +10,7 @@ mod law;
 mod message;
 mod operation;
 mod plan;
+mod product;
 mod refusal;
 mod standard;
 mod status;

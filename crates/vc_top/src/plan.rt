@@ -1,7 +1,7 @@
 ghost use Rattle.std.specs.Prelude.{Some};
 ghost use Rattle.vc_command.specs.Requests.{HasLimit};
 ghost use Rattle.vc_command.specs.Views.{asked};
-ghost use Rattle.vc_top.specs.Commands.{AnswersFile, AnswersTexts, HasLimits, IsPlan, IsWithin};
+ghost use Rattle.vc_top.specs.Commands.{AnswersFile, AnswersFiles, AnswersTexts, AreWithin, HasLimits, IsPlan, IsWithin};
 ghost use Rattle.vc_top.specs.Inputs.{IsSoundInput};
 ghost use Rattle.vc_top.specs.Outcomes.{OrMemory};
 ghost use Rattle.vc_top.specs.Plans.{plan_of};
@@ -12,6 +12,7 @@ use crate::evaluation::eval;
 use crate::expression::expr;
 use crate::input::AnyInput;
 use crate::operation::{Operation, print};
+use crate::product::{Product, print_product};
 use crate::refusal::Refusal;
 use crate::standard::{eval_text, standard};
 use std::alloc::Global;
@@ -24,6 +25,8 @@ pub(crate) enum Plan<'w> {
     Texts(TextCommand<'w>),
     /// The file of this name is read.
     File(&'w str, FileCommand<'w>),
+    /// The files of these names are read.
+    Files(&'w str, &'w str, FilesCommand),
 }
 
 /// A command that reads no file.
@@ -63,6 +66,13 @@ pub(crate) enum FileCommand<'w> {
     Eval { word: &'w str },
 }
 
+/// A command that reads two files.
+#[derive(Clone, Copy)]
+pub(crate) enum FilesCommand {
+    /// `conjunction A B` and `shuffle A B`
+    Join { product: Product, limit: u64 },
+}
+
 /// The plan of a request: a line for each command.
 pub(crate) fn plan_of(request: &Request) -> Plan<'_>
     requires { HasLimit (asked request.now) }
@@ -93,6 +103,30 @@ pub(crate) fn plan_of(request: &Request) -> Plan<'_>
         Request::Cat { file } => Plan::File(file, FileCommand::Print(Operation::Itself)),
         Request::Proper { file } => Plan::File(file, FileCommand::Print(Operation::Proper)),
         Request::Trim { file } => Plan::File(file, FileCommand::Print(Operation::Trim)),
+        Request::Conjunction {
+            first,
+            second,
+            limit,
+        } => Plan::Files(
+            first,
+            second,
+            FilesCommand::Join {
+                product: Product::Conjunction,
+                limit: *limit,
+            },
+        ),
+        Request::Shuffle {
+            first,
+            second,
+            limit,
+        } => Plan::Files(
+            first,
+            second,
+            FilesCommand::Join {
+                product: Product::Shuffle,
+                limit: *limit,
+            },
+        ),
         Request::EvalFile { file, word } => Plan::File(file, FileCommand::Eval { word }),
         _ => Plan::Texts(TextCommand::Unbuilt),
     }
@@ -132,5 +166,23 @@ pub(crate) fn on_file<'w>(
     match command {
         FileCommand::Print(operation) => print(alloc, operation, &input),
         FileCommand::Eval { word } => eval(alloc, input, word),
+    }
+}
+
+/// The answer of a command to the automata of its two files.
+pub(crate) fn on_files<'w>(
+    alloc: Global,
+    command: FilesCommand,
+    first: &AnyInput,
+    second: &AnyInput,
+) -> Result<String, Refusal<'w>>
+    requires { AreWithin command }
+    ensures { OrMemory (AnswersFiles command (input_of first.now) (input_of second.now)) (answer_of
+        result) }
+{
+    match command {
+        FilesCommand::Join { product, limit } => {
+            print_product(alloc, product, first, second, limit)
+        }
     }
 }

@@ -4,7 +4,7 @@ ghost use Rattle.vc_command.specs.Views.{asked};
 ghost use Rattle.vc_files.specs.Files.{Grows};
 ghost use Rattle.vc_top.specs.Answers.{Allows, names_of};
 ghost use Rattle.vc_top.specs.Delivery.{Delivers, Reports};
-ghost use Rattle.vc_top.specs.Commands.{AnswersFile};
+ghost use Rattle.vc_top.specs.Commands.{AnswersFile, AnswersFiles, AreWithin};
 ghost use Rattle.vc_top.specs.Inputs.{ReadsFile};
 ghost use Rattle.vc_top.specs.Outcomes.{OrMemory, Then};
 ghost use Rattle.vc_top.specs.Rows.{IsRun, flow};
@@ -13,7 +13,7 @@ ghost use Rattle.vc_top.specs.Views.{answer_of, left_of, reason_of_words};
 
 use crate::input::read_input;
 use crate::message::write_message;
-use crate::plan::{FileCommand, Plan, on_file, on_texts, plan_of};
+use crate::plan::{FileCommand, FilesCommand, Plan, on_file, on_files, on_texts, plan_of};
 use crate::refusal::Refusal;
 use crate::status::Status;
 use std::alloc::Global;
@@ -21,9 +21,10 @@ use vc_basic::NminValue;
 use vc_command::{Request, RequestFault, limits_are_in_range, request_of};
 use vc_context::contexts_have_texts;
 use vc_exprio::{texts_have_one_answer, texts_spell_one_word};
-use vc_files::{Files, Sink};
-use vc_label::words_are_ordered;
+use vc_files::{Files, Sink, faults_of_calls};
+use vc_label::{alphabets_are_sets, words_are_ordered};
 use vc_rat::Fraction;
+use vc_search::members_are_few;
 
 /// The answer of a command to the file of this name.
 fn with_file<'w, F: Files>(
@@ -43,6 +44,33 @@ fn with_file<'w, F: Files>(
     }
 }
 
+/// The answer of a command to the files of these names. The second is read once the first stands.
+fn with_files<'w, F: Files>(
+    alloc: Global,
+    command: FilesCommand,
+    files: &mut F,
+    first: &'w str,
+    second: &'w str,
+) -> Result<String, Refusal<'w>>
+    requires { AreWithin command }
+    ensures held { F.held files.new ≡ F.held files.old }
+    ensures faults { Grows (first.now ∷ second.now ∷ []) (F.faults files.old) (F.faults files.new) }
+    ensures answer { OrMemory (Then (ReadsFile (seen (F.held files.old) (F.faults files.old)
+        (F.faults files.new)) first.now) (λ x. Then (ReadsFile (seen (F.held files.old) (F.faults
+        files.old) (F.faults files.new)) second.now) (AnswersFiles command x))) (answer_of result) }
+{
+    faults_of_calls();
+    let left = match read_input(alloc, files, first) {
+        Ok(input) => input,
+        Err(refusal) => return Err(refusal),
+    };
+    let right = match read_input(alloc, files, second) {
+        Ok(input) => input,
+        Err(refusal) => return Err(refusal),
+    };
+    on_files(alloc, command, &left, &right)
+}
+
 /// The answer to a request; one of a command that is not built is `Usage`.
 fn answer<'w, F: Files>(
     alloc: Global,
@@ -59,6 +87,7 @@ fn answer<'w, F: Files>(
     match plan_of(request) {
         Plan::Texts(command) => on_texts(alloc, command),
         Plan::File(file, command) => with_file(alloc, command, files, file),
+        Plan::Files(first, second, command) => with_files(alloc, command, files, first, second),
     }
 }
 
@@ -110,7 +139,9 @@ pub fn refuse<E: Sink>(fault: RequestFault, err: &mut E) -> Status
 /// canonical text of the context, `expr C E` that of the expression that the identities make of the
 /// text, `standard C E` that of its standard automaton, `cat FILE` that of the file's automaton,
 /// `proper FILE` that of the file's automaton without empty labels, `trim FILE` that of the file's
-/// automaton with its useful states alone, and `eval FILE WORD` and `eval C E WORD` the coefficient
+/// automaton with its useful states alone, `conjunction A B` and `shuffle A B` those of the products
+/// of two automata, over one weight set and over labels of at most one letter on one tape, and
+/// `eval FILE WORD` and `eval C E WORD` the coefficient
 /// of the file's automaton or of the expression at the word (Sakarovitch, Elements of Automata
 /// Theory), each with a line feed at its end. A file over `f2`, `z` or `q` whose automaton has a
 /// circuit of empty labels is refused. A request of a command that is not built yet is `Usage`.
@@ -140,6 +171,8 @@ pub fn run<F: Files, O: Sink, E: Sink>(
     texts_have_one_answer::<i128>();
     texts_have_one_answer::<Fraction>();
     texts_have_one_answer::<NminValue>();
+    alphabets_are_sets();
+    members_are_few::<(u32, u32)>();
     match request_of(alloc, words) {
         Ok(request) => {
             let answer = answer(alloc, &request, files);

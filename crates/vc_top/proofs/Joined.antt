@@ -1,0 +1,155 @@
+-- What a product of two automata answers.
+use Rattle.std.proofs.Common.{◌≡◌, ◌||◌, ℕ, Bool, List, [], ◌∷◌, length, Option, None, Some, Result, Ok, Err, refl, sym, ap, ap₂, ◌∙◌, subst, inl, inr}
+use Rattle.vc_aut.specs.Labelled.{Labelled}
+use Rattle.vc_context.specs.declared.context.Weights.{Weights}
+use Rattle.vc_files.specs.Files.{Bytes}
+use Rattle.vc_join.specs.Products.{IsPairProduct}
+use Rattle.vc_label.specs.Alphabets.{has_letter}
+use Rattle.vc_label.specs.Sets.{AreSingleSets, IsShortKind}
+use Rattle.vc_label.specs.declared.tape_set.TapeSet.{TapeSet}
+use Rattle.vc_model.specs.Automata.{Automaton, coefficient}
+use Rattle.vc_model.specs.Series.{SameOn, Series}
+use Rattle.vc_model.specs.SumLaws.{sum_same}
+use Rattle.vc_model.specs.WeightSet.{SemiringLaws}
+use Rattle.vc_model.specs.Words.{Tape, letters_at, letters_off, position_sets}
+use Rattle.vc_ring.specs.Texts.{WeightTexts}
+use Rattle.vc_ring.specs.declared.faults.Limit.{Limit as Most}
+use Rattle.vc_ring.specs.declared.faults.MakeFault.{MakeFault}
+use Rattle.vc_ring.specs.declared.faults.MakeFault.TheVariants.{Overflow, Limit, Memory}
+use Rattle.vc_search.specs.Explored.{IsUnexplored}
+use Rattle.vc_top.specs.Automata.{Prints}
+use Rattle.vc_top.specs.Operations.{IsProperOf, WithProper}
+use Rattle.vc_top.specs.Outcomes.{Answer, Gives, Outcome, OrMemory}
+use Rattle.vc_top.specs.Products.{AnswersProductOver, AreJoint, HasManyPairs, IsProductOf, IsStepOf, WithProduct, first_of, items, joint_kind, series_of}
+use Rattle.vc_top.specs.Reasons.{Reason, contexts, empty_circuit, limit, no_memory, overflow}
+use Rattle.vc_top.specs.Refused.{make_reason}
+use Rattle.vc_top.specs.declared.product.Product.{Product}
+use Rattle.vc_top.specs.declared.product.Product.TheVariants.{Conjunction, Shuffle}
+use Rattle.vc_top.specs.declared.refusal.Bound.TheVariants.{Of}
+
+abbrev given : {X : Type 0} → X → Result X Reason
+given x = Ok x
+
+abbrev refused : {X : Type 0} → Reason → Result X Reason
+refused r = Err r
+
+same_given : {X : Type 0} (x y : X) → given x ≡ given y → x ≡ y
+same_given x y e = cc e
+
+same_refused : {X Y : Type 0} (r s : Reason) → refused {X = X} r ≡ refused s → refused {X = Y} r ≡ refused s
+same_refused r s e = cc e
+
+no_given : {X : Type 0} (x : X) (r : Reason) → given x ≡ refused r → ⊥
+no_given x r e = cc e
+
+-- a part of the automaton without empty labels is known, and what comes after for the whole
+module _ {V X Y : Type 0} (T : WeightTexts V) (is_absorbing : Bool) (a : Labelled V) (view : Labelled V → X) (rest : Labelled V → Outcome Y) where
+  viewed : (v : X) (b : Result Y Reason) → OrMemory (WithProper T is_absorbing a (λ p. Gives (view p))) (Ok v) → ((p : Labelled V) → IsProperOf T a p → view p ≡ v → OrMemory (rest p) b) → OrMemory (WithProper T is_absorbing a rest) b
+  viewed v b (inl e) f = absurd (no_given v no_memory e)
+  viewed v b (inr (inl p)) f = absurd (no_given v empty_circuit p.1)
+  viewed v b (inr (inr (n, inl p))) f = absurd (no_given v p.0 p.2)
+  viewed v b (inr (inr (n, inr (p, m, e)))) f = go (f p m (sym (same_given v (view p) e)))
+    where
+      go : OrMemory (rest p) b → OrMemory (WithProper T is_absorbing a rest) b
+      go (inl e) = inl e
+      go (inr q) = inr (inr (n, inr (p, m, q)))
+
+  unviewed : (r : Reason) → OrMemory (WithProper T is_absorbing a (λ p. Gives (view p))) (Err r) → OrMemory (WithProper T is_absorbing a rest) (Err r)
+  unviewed r (inl e) = inl (same_refused {X = X} {Y = Y} r no_memory e)
+  unviewed r (inr (inl p)) = inr (inl (p.0, same_refused {X = X} {Y = Y} r empty_circuit p.1))
+  unviewed r (inr (inr (n, inl p))) = inr (inr (n, inl (p.0, p.1, same_refused {X = X} {Y = Y} r p.0 p.2)))
+  unviewed r (inr (inr (n, inr (p, m, e)))) = absurd (no_given (view p) r (sym e))
+
+-- the series of a product is made of the values of both series at words of one tape
+pub same_series : {V : Type 0} (T : WeightTexts V) → SemiringLaws T.set → (product : Product) (f g h k : Series V) → SameOn 1 f h → SameOn 1 g k → (u : Tape) → series_of product T.set f g (u ∷ []) ≡ series_of product T.set h k (u ∷ [])
+same_series T L Conjunction f g h k s t u = ap₂ T.set.times (s (u ∷ []) refl) (t (u ∷ []) refl)
+same_series T L Shuffle f g h k s t u =
+    sum_same L (λ I. T.set.times (f (letters_at I u ∷ [])) (g (letters_off I u ∷ []))) (λ I. T.set.times (h (letters_at I u ∷ [])) (k (letters_off I u ∷ []))) (position_sets (length u))
+    (λ I i. ap₂ T.set.times (s (letters_at I u ∷ []) refl) (t (letters_off I u ∷ []) refl))
+
+module _ {V : Type 0} (T : WeightTexts V) (product : Product) (most : ℕ) (sets : List TapeSet) (f g : Series V) (a b : Automaton V) (rest : Labelled V → Outcome Bytes) where
+  -- the product, and what comes after for it
+  pub joined_given : (p : Labelled V) (r : Answer) → ¬ HasManyPairs T product most a b → IsProductOf T product most sets f g a b p → OrMemory (rest p) r → OrMemory (WithProduct T product most sets f g a b rest) r
+  joined_given p r n s (inl e) = inl e
+  joined_given p r n s (inr q) = inr (inr (inr (n, (p, s, q))))
+
+  -- why there is none
+  pub joined_not : (fault : MakeFault V) → IsUnexplored T.set (items T product most a b) (first_of T product most a b) (IsStepOf product T.set a b) most fault → OrMemory (WithProduct T product most sets f g a b rest) (Err (make_reason fault))
+  joined_not (Overflow o) h = inr (inl (overflow, inl (refl, (o, h)), refl))
+  joined_not (Limit l) (inl h) = inr (inr (inl (h.1, ap (λ (m : Most). refused (limit (Of m.what))) h.0)))
+  joined_not (Limit l) (inr h) = inr (inl (limit (Of l.what), inr (ap (λ (m : Most). limit (Of m.what)) h.0, h.1), refl))
+  joined_not (Memory e) h = inl refl
+
+-- both automata without empty labels, and what their product answers
+module _ {V : Type 0} (T : WeightTexts V) (product : Product) (most : ℕ) (is_absorbing : Bool) (rest : Labelled V → Outcome Bytes) (a b : Labelled V) (sets : List TapeSet) (joint : AreJoint a.sets b.sets sets) where
+  abbrev of_automaton : Labelled V → Automaton V
+  of_automaton p = p.automaton
+
+  abbrev Product_of : Automaton V → Automaton V → Outcome Bytes
+  Product_of p q = WithProduct T product most sets (coefficient T.set a.automaton) (coefficient T.set b.automaton) p q rest
+
+  abbrev After : Labelled V → Outcome Bytes
+  After p = WithProper T is_absorbing b (λ q. Product_of p.automaton q.automaton)
+
+  one_tape : {ss : List TapeSet} {s : TapeSet} → ss ≡ s ∷ [] → length ss ≡ 1
+  one_tape e = ap length e
+
+  -- they are known
+  closed_both : (A B : Automaton V) (r : Answer) → OrMemory (WithProper T is_absorbing a (λ p. Gives p.automaton)) (Ok A) → OrMemory (WithProper T is_absorbing b (λ p. Gives p.automaton)) (Ok B)
+      → ((f g : Series V) → SameOn 1 (coefficient T.set A) f → SameOn 1 (coefficient T.set B) g → OrMemory (WithProduct T product most sets f g A B rest) r) → OrMemory (WithProper T is_absorbing a After) r
+  closed_both A B r h k given_product =
+      viewed T is_absorbing a of_automaton After A r h (λ p s e.
+      viewed T is_absorbing b of_automaton (λ q. Product_of p.automaton q.automaton) B r k (λ q t d.
+      subst (λ (x : Automaton V). OrMemory (Product_of x q.automaton) r) (sym e) (subst (λ (x : Automaton V). OrMemory (Product_of A x) r) (sym d)
+      (given_product (coefficient T.set a.automaton) (coefficient T.set b.automaton)
+      (λ w l. ap (λ (x : Automaton V). coefficient T.set x w) (sym e) ∙ s.series w (l ∙ sym (one_tape joint.is_first)))
+      (λ w l. ap (λ (x : Automaton V). coefficient T.set x w) (sym d) ∙ t.series w (l ∙ sym (one_tape joint.is_second)))))))
+
+  -- the second is not made
+  unclosed_second : (A : Automaton V) (r : Reason) → OrMemory (WithProper T is_absorbing a (λ p. Gives p.automaton)) (Ok A) → OrMemory (WithProper T is_absorbing b (λ p. Gives p.automaton)) (Err r) → OrMemory (WithProper T is_absorbing a After) (Err r)
+  unclosed_second A r h k = viewed T is_absorbing a of_automaton After A (Err r) h (λ p s e. unviewed T is_absorbing b of_automaton (λ q. Product_of p.automaton q.automaton) r k)
+
+  unclosed_first : (r : Reason) → OrMemory (WithProper T is_absorbing a (λ p. Gives p.automaton)) (Err r) → OrMemory (WithProper T is_absorbing a After) (Err r)
+  unclosed_first r h = unviewed T is_absorbing a of_automaton After r h
+
+module _ {V : Type 0} (T : WeightTexts V) (product : Product) (most : ℕ) (is_absorbing : Bool) (w : Weights) (a b : Labelled V) (sets : List TapeSet) (joint : AreJoint a.sets b.sets sets) where
+  -- the label sets fit
+  over_joint : (r : Answer) → OrMemory (WithProper T is_absorbing a (After T product most is_absorbing (Prints T w) a b sets joint)) r → OrMemory (AnswersProductOver T product most is_absorbing w a b) r
+  over_joint r (inl e) = inl e
+  over_joint r (inr p) = inr (inr (sets, joint, p))
+
+  pub product_answered : (A B : Automaton V) (r : Answer) → OrMemory (WithProper T is_absorbing a (λ p. Gives p.automaton)) (Ok A) → OrMemory (WithProper T is_absorbing b (λ p. Gives p.automaton)) (Ok B)
+      → ((f g : Series V) → SameOn 1 (coefficient T.set A) f → SameOn 1 (coefficient T.set B) g → OrMemory (WithProduct T product most sets f g A B (Prints T w)) r) → OrMemory (AnswersProductOver T product most is_absorbing w a b) r
+  product_answered A B r h k q = over_joint r (closed_both T product most is_absorbing (Prints T w) a b sets joint A B r h k q)
+
+  pub second_unclosed : (A : Automaton V) (r : Reason) → OrMemory (WithProper T is_absorbing a (λ p. Gives p.automaton)) (Ok A) → OrMemory (WithProper T is_absorbing b (λ p. Gives p.automaton)) (Err r)
+      → OrMemory (AnswersProductOver T product most is_absorbing w a b) (Err r)
+  second_unclosed A r h k = over_joint (Err r) (unclosed_second T product most is_absorbing (Prints T w) a b sets joint A r h k)
+
+  pub first_unclosed : (r : Reason) → OrMemory (WithProper T is_absorbing a (λ p. Gives p.automaton)) (Err r) → OrMemory (AnswersProductOver T product most is_absorbing w a b) (Err r)
+  first_unclosed r h = over_joint (Err r) (unclosed_first T product most is_absorbing (Prints T w) a b sets joint r h)
+
+-- label sets of one tape fit, where both have at most one letter in a part
+pub joint_sets : (ss ts us : List TapeSet) (s t u : TapeSet) → ss ≡ s ∷ [] → ts ≡ t ∷ [] → us ≡ u ∷ [] → IsShortKind s.kind → IsShortKind t.kind → u.kind ≡ joint_kind s.kind t.kind
+    → ((x : ℕ) → has_letter u.alphabet x ≡ (has_letter s.alphabet x || has_letter t.alphabet x)) → AreJoint ss ts us
+joint_sets ss ts us s t u e f h i j k l = record { first = s; second = t; joint = u; is_first = e; is_second = f; is_joint = h; first_short = i; second_short = j; kind = k; letters = l }
+
+-- those that are no single sets fit with none
+one_short : (ss : List TapeSet) (s : TapeSet) → ss ≡ s ∷ [] → IsShortKind s.kind → AreSingleSets ss
+one_short ss s e k = subst AreSingleSets (sym e) k
+
+pub no_first : (ss ts us : List TapeSet) → ¬ AreSingleSets ss → ¬ AreJoint ss ts us
+no_first ss ts us n j = n (one_short ss j.first j.is_first j.first_short)
+
+pub no_second : (ss ts us : List TapeSet) → ¬ AreSingleSets ts → ¬ AreJoint ss ts us
+no_second ss ts us n j = n (one_short ts j.second j.is_second j.second_short)
+
+module _ {V : Type 0} (T : WeightTexts V) (product : Product) (most : ℕ) (is_absorbing : Bool) (w : Weights) (a b : Labelled V) where
+  pub not_joint : ((us : List TapeSet) → ¬ AreJoint a.sets b.sets us) → OrMemory (AnswersProductOver T product most is_absorbing w a b) (Err contexts)
+  not_joint n = inr (inl (n, refl))
+
+-- the one set of a list that has one
+pub one_set : (ss : List TapeSet) → AreSingleSets ss → (s : TapeSet) × ((ss ≡ s ∷ []) × IsShortKind s.kind)
+one_set [] h = absurd h
+one_set (s ∷ []) h = (s, refl, h)
+one_set (s ∷ t ∷ ss) h = absurd h
