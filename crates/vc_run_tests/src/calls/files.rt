@@ -90,6 +90,10 @@ pub(super) const FILES: &[(&str, &str)] = &[
         "useless_between",
         "context = \"lal_char(ab), z\"\n$ -> 1 <3>\n0 -> 1 a\n1 -> 3 <2>b\n1 -> 4 a\n2 -> 3 a\n3 -> $ <-1>\n",
     ),
+    (
+        "one_word",
+        "context = \"lal_char(ab), z\"\n$ -> 0\n0 -> 1 a\n1 -> 2 b\n2 -> $\n",
+    ),
     ("blank_line", "context = \"lal_char(ab), b\"\n\n$ -> 0\n"),
     ("empty", ""),
     ("realistic", REALISTIC),

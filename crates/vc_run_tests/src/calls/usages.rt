@@ -37,12 +37,11 @@ pub(super) const USAGES: &[Group] = &[
         rows: &[
             (&["derived", "lal_char(ab), b", "a"], 2, "", USAGE),
             (
-                &["conjunction", "contains_ab", "not_held", "--limit", "3"],
+                &["compose", "contains_ab", "not_held", "--limit", "3"],
                 2,
                 "",
                 USAGE,
             ),
-            (&["shuffle", "contains_ab", "contains_ab"], 2, "", USAGE),
             (&["compose", "pairs", "pairs"], 2, "", USAGE),
             (&["determinize", "contains_ab", "--limit=3"], 2, "", USAGE),
             (&["quotient", "contains_ab"], 2, "", USAGE),
