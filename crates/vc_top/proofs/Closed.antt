@@ -1,22 +1,21 @@
 -- What the removal of empty labels answers, and the commands that begin with it.
-use Rattle.std.proofs.Common.{◌≡◌, ℕ, Bool, true, false, List, length, map, Result, Ok, Err, refl, sym, ap, ◌∙◌, subst, inl, inr, ◌⊎◌}
+use Rattle.std.proofs.Common.{◌≡◌, Bool, true, false, length, map, Result, Ok, Err, refl, sym, ap, ◌∙◌, subst, inl, inr, ◌⊎◌}
 use Rattle.vc_aut.specs.Labelled.{Labelled}
 use Rattle.vc_aut.specs.Stored.{transition_of}
 use Rattle.vc_closure.specs.Refused.{IsAllowed, IsCause, IsPastPairs, IsPastTriples}
 use Rattle.vc_closure.specs.declared.fault.ProperFault.{ProperFault}
 use Rattle.vc_closure.specs.declared.fault.ProperFault.TheVariants.{Circuit, Overflow, Limit, Memory}
 use Rattle.vc_files.specs.Files.{Bytes}
-use Rattle.vc_model.specs.Automata.{Automaton, IsAutomaton, IsSound, NoEmptyCircuit, coefficient}
+use Rattle.vc_model.specs.Automata.{IsAutomaton, IsSound, coefficient}
 use Rattle.vc_model.specs.CircuitLaws.{NoEmptyCircuit-from, NoEmptyCircuit-not}
 use Rattle.vc_model.specs.WeightSet.{Absorbs, WeightSet}
 use Rattle.vc_model.specs.Words.{Word}
 use Rattle.vc_ring.specs.Texts.{WeightTexts}
 use Rattle.vc_ring.specs.declared.faults.Limit.{Limit as Most}
-use Rattle.vc_ring.specs.declared.faults.Measure.TheVariants.{Closure, Transitions}
 use Rattle.vc_top.specs.Evaluations.{AnswersEvalOver, AnswersValue, AnswersWord, ReadsWithProper, ReadsWord}
 use Rattle.vc_top.specs.Inputs.{HasRefusedCircuit}
 use Rattle.vc_top.specs.Operations.{IsProperOf, IsUnclosed, WithProper}
-use Rattle.vc_top.specs.Outcomes.{Answer, Gives, Outcome, OrMemory, Then}
+use Rattle.vc_top.specs.Outcomes.{Answer, Gives, Outcome, OrMemory}
 use Rattle.vc_top.specs.Reasons.{Reason, empty_circuit, limit, no_memory, overflow}
 use Rattle.vc_top.specs.Refused.{closing_reason}
 use Rattle.vc_top.specs.declared.refusal.Bound.TheVariants.{Of}

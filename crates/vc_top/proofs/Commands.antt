@@ -46,7 +46,7 @@ use Rattle.vc_top.specs.Plans.{IsLoose, IsOpen, Plan, of_file, of_files, of_text
 use Rattle.vc_top.specs.Products.{AnswersProduct, AreJoint, HasManyPairs, IsProductOf, IsUnjoined, Operands, WithProduct, joint_kind, operands_of}
 use Rattle.vc_top.specs.Reasons.{Reason, contexts, empty_circuit, in_context, in_word, limit, no_label, no_memory, no_star, order, overflow, syntax, unread, unwritten, usage}
 use Rattle.vc_top.specs.Refused.{UnlessCause, make_reason}
-use Rattle.vc_top.specs.Sets.{absorbs, texts_of, value_of, truth_weights, residue_weights, whole_weights, fraction_weights, tropical_weights}
+use Rattle.vc_top.specs.Sets.{absorbs, texts_of, value_of}
 use Rattle.vc_top.specs.Standards.{AnswersEvalText, AnswersStandard, IsOfConstruction, IsStandard, IsUnmade, WithStandard, most_states}
 use Rattle.vc_top.specs.declared.operation.Operation.TheVariants as operation
 use Rattle.vc_top.specs.declared.product.Product.{Product}

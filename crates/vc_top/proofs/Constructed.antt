@@ -1,5 +1,5 @@
 -- What the commands over the standard automaton of an expression answer.
-use Rattle.std.proofs.Common.{◌≡◌, ◌≢◌, ◌<◌, ◌+◌, ℕ, List, length, Result, Ok, Err, refl, sym, ap, ◌∙◌, subst, inl, inr}
+use Rattle.std.proofs.Common.{◌≡◌, ◌<◌, ◌+◌, ℕ, List, length, Result, Ok, Err, refl, sym, ap, ◌∙◌, subst, inl, inr}
 use Rattle.vc_aut.specs.Labelled.{Labelled}
 use Rattle.vc_context.specs.Sets.{tapes_of}
 use Rattle.vc_context.specs.Spelling.{SpellsContext}

@@ -19,7 +19,7 @@ use Rattle.vc_files.specs.Files.{Bytes}
 use Rattle.vc_label.specs.declared.tape_set.TapeSet.{TapeSet}
 use Rattle.vc_ring.specs.Texts.{WeightTexts}
 use Rattle.vc_terms.specs.Terms.{Term}
-use Rattle.vc_top.specs.Expressions.{AnswersExpr, AnswersExprOver, PrintsExpression, ReadsExpression, are_single, text_reason}
+use Rattle.vc_top.specs.Expressions.{AnswersExpr, AnswersExprOver, PrintsExpression, ReadsExpression, are_single}
 use Rattle.vc_top.specs.Outcomes.{Answer, OrMemory}
 use Rattle.vc_top.specs.Reasons.{Reason, in_context, limit, syntax}
 use Rattle.vc_top.specs.Sets.{texts_of}

@@ -1,11 +1,13 @@
 -- What a product of two automata answers.
-use Rattle.std.proofs.Common.{◌≡◌, ◌||◌, ℕ, Bool, List, [], ◌∷◌, length, Option, None, Some, Result, Ok, Err, refl, sym, ap, ap₂, ◌∙◌, subst, inl, inr}
+use Rattle.std.proofs.Common.{◌≡◌, ◌||◌, ℕ, Bool, true, false, List, [], ◌∷◌, length, Result, Ok, Err, refl, sym, ap, ap₂, ◌∙◌, subst, inl, inr}
 use Rattle.vc_aut.specs.Labelled.{Labelled}
+use Rattle.vc_aut.specs.Wider.{AreWithin, IsKindWithin, IsWithin}
 use Rattle.vc_context.specs.declared.context.Weights.{Weights}
 use Rattle.vc_files.specs.Files.{Bytes}
-use Rattle.vc_join.specs.Products.{IsPairProduct}
 use Rattle.vc_label.specs.Alphabets.{has_letter}
 use Rattle.vc_label.specs.Sets.{AreSingleSets, IsShortKind}
+use Rattle.vc_label.specs.declared.tape_set.TapeKind.{TapeKind}
+use Rattle.vc_label.specs.declared.tape_set.TapeKind.TheVariants.{Letters, Nullable, Words}
 use Rattle.vc_label.specs.declared.tape_set.TapeSet.{TapeSet}
 use Rattle.vc_model.specs.Automata.{Automaton, coefficient}
 use Rattle.vc_model.specs.Series.{SameOn, Series}
@@ -17,6 +19,9 @@ use Rattle.vc_ring.specs.declared.faults.Limit.{Limit as Most}
 use Rattle.vc_ring.specs.declared.faults.MakeFault.{MakeFault}
 use Rattle.vc_ring.specs.declared.faults.MakeFault.TheVariants.{Overflow, Limit, Memory}
 use Rattle.vc_search.specs.Explored.{IsUnexplored}
+use Rattle.vc_tuple.specs.Tuples.{sets_of}
+use Rattle.vc_tuple.specs.declared.tuple.Sets.{Sets}
+use Rattle.vc_tuple.specs.declared.tuple.Sets.TheVariants.{Two, Three, Four}
 use Rattle.vc_top.specs.Automata.{Prints}
 use Rattle.vc_top.specs.Operations.{IsProperOf, WithProper}
 use Rattle.vc_top.specs.Outcomes.{Answer, Gives, Outcome, OrMemory}
@@ -134,6 +139,40 @@ pub joint_sets : (ss ts us : List TapeSet) (s t u : TapeSet) → ss ≡ s ∷ []
     → ((x : ℕ) → has_letter u.alphabet x ≡ (has_letter s.alphabet x || has_letter t.alphabet x)) → AreJoint ss ts us
 joint_sets ss ts us s t u e f h i j k l = record { first = s; second = t; joint = u; is_first = e; is_second = f; is_joint = h; first_short = i; second_short = j; kind = k; letters = l }
 
+-- a kind is within the joint one
+first_within : (k l : TapeKind) → IsShortKind k → IsKindWithin k (joint_kind k l)
+first_within Letters l h = tt
+first_within Nullable l h = tt
+first_within Words l h = absurd h
+
+second_within : (k l : TapeKind) → IsShortKind k → IsShortKind l → IsKindWithin l (joint_kind k l)
+second_within k Letters h i = tt
+second_within Letters Nullable h i = tt
+second_within Nullable Nullable h i = tt
+second_within Words Nullable h i = absurd h
+second_within k Words h i = absurd i
+
+or_true : (b : Bool) → (b || true) ≡ true
+or_true true = refl
+or_true false = refl
+
+one_within : (s u : TapeSet) → IsKindWithin s.kind u.kind → ((x : ℕ) → has_letter s.alphabet x ≡ true → has_letter u.alphabet x ≡ true) → IsWithin s u
+one_within s u k l = record { kind = k; letters = l }
+
+sets_within : {ss us : List TapeSet} (s u : TapeSet) → ss ≡ s ∷ [] → us ≡ u ∷ [] → IsWithin s u → AreWithin ss us
+sets_within {ss} {us} s u e f w = subst (λ xs. AreWithin xs us) (sym e) (subst (λ ys. AreWithin (s ∷ []) ys) (sym f) (w, tt))
+
+module _ (ss ts us : List TapeSet) (j : AreJoint ss ts us) where
+  pub within_first : AreWithin ss us
+  within_first =
+      sets_within j.first j.joint j.is_first j.is_joint (one_within j.first j.joint (subst (λ k. IsKindWithin j.first.kind k) (sym j.kind) (first_within j.first.kind j.second.kind j.first_short))
+      (λ x e. j.letters x ∙ ap (λ b. b || has_letter j.second.alphabet x) e))
+
+  pub within_second : AreWithin ts us
+  within_second =
+      sets_within j.second j.joint j.is_second j.is_joint (one_within j.second j.joint (subst (λ k. IsKindWithin j.second.kind k) (sym j.kind) (second_within j.first.kind j.second.kind j.first_short j.second_short))
+      (λ x e. j.letters x ∙ ap (λ b. has_letter j.first.alphabet x || b) e ∙ or_true (has_letter j.first.alphabet x)))
+
 -- those that are no single sets fit with none
 one_short : (ss : List TapeSet) (s : TapeSet) → ss ≡ s ∷ [] → IsShortKind s.kind → AreSingleSets ss
 one_short ss s e k = subst AreSingleSets (sym e) k
@@ -148,8 +187,23 @@ module _ {V : Type 0} (T : WeightTexts V) (product : Product) (most : ℕ) (is_a
   pub not_joint : ((us : List TapeSet) → ¬ AreJoint a.sets b.sets us) → OrMemory (AnswersProductOver T product most is_absorbing w a b) (Err contexts)
   not_joint n = inr (inl (n, refl))
 
+-- the sets of a tuple are several
+pub tuples_several : (s : Sets) → ¬ AreSingleSets (sets_of s)
+tuples_several (Two a b) h = h
+tuples_several (Three a b c) h = h
+tuples_several (Four a b c d) h = h
+
+pub one_of_single : (ss : List TapeSet) → AreSingleSets ss → length ss ≡ 1
+one_of_single [] h = absurd h
+one_of_single (s ∷ []) h = refl
+one_of_single (s ∷ t ∷ ss) h = absurd h
+
+-- what is answered to two matched things
+pub at_two : {X Y : Type 0} (R : X → Y → Outcome Bytes) (x a : X) (y b : Y) (r : Answer) → x ≡ a → y ≡ b → OrMemory (R a b) r → OrMemory (R x y) r
+at_two R x a y b r e f p = subst (λ v. OrMemory (R x v) r) (sym f) (subst (λ v. OrMemory (R v b) r) (sym e) p)
+
 -- the one set of a list that has one
 pub one_set : (ss : List TapeSet) → AreSingleSets ss → (s : TapeSet) × ((ss ≡ s ∷ []) × IsShortKind s.kind)
 one_set [] h = absurd h
-one_set (s ∷ []) h = (s, refl, h)
+one_set (s ∷ []) h = (s, (refl, h))
 one_set (s ∷ t ∷ ss) h = absurd h

@@ -5,7 +5,7 @@ use Rattle.std.specs.Cmp.{IsTotalOrder}
 use Rattle.vc_aut.specs.Labelled.{Labelled}
 use Rattle.vc_closure.specs.Closing.{all_brought, closure}
 use Rattle.vc_label.specs.Order.{word_order}
-use Rattle.vc_model.specs.Automata.{Automaton, final_weight, initial_weight}
+use Rattle.vc_model.specs.Automata.{final_weight, initial_weight}
 use Rattle.vc_model.specs.GatheredLaws.{gathered_alike}
 use Rattle.vc_model.specs.Lists.{In, IsIncreasing}
 use Rattle.vc_model.specs.Trims.{is_between, placed}

@@ -41,7 +41,7 @@ module _ {V : Type 0} (T : WeightTexts V) (L : SemiringLaws T.set) (total : IsTo
       let initial : A.initial ≡ B.initial = p.pairs.holds.begins ∙ ap (map (pair_initial T.set a b)) same_members ∙ sym q.pairs.holds.begins in
       let final : A.final ≡ B.final = p.pairs.holds.ends ∙ ap (map (pair_final T.set a b)) same_members ∙ sym q.pairs.holds.ends in
       let moves : A.transitions ≡ B.transitions =
-          gathered_alike L (before T.set total) (one_way T.set total) (raw p.pairs.members) (raw q.pairs.members) A.transitions B.transitions p.pairs.holds.transitions q.pairs.holds.transitions
-          (λ d. ap (λ ks. weight_at T.set (raw ks) d) same_members) (ascending T.set total A.transitions p.order) (ascending T.set total B.transitions q.order)
+      gathered_alike L (before T.set total) (one_way T.set total) (raw p.pairs.members) (raw q.pairs.members) A.transitions B.transitions p.pairs.holds.transitions q.pairs.holds.transitions
+      (λ d. ap (λ ks. weight_at T.set (raw ks) d) same_members) (ascending T.set total A.transitions p.order) (ascending T.set total B.transitions q.order)
       in
       ap (λ s. labelled s A) (p.labels ∙ sym q.labels) ∙ ap (λ C. labelled y.sets C) (same_automaton A B states initial final moves)

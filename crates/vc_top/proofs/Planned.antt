@@ -3,7 +3,7 @@ use Rattle.std.proofs.Common.{◌≡◌, ℕ, List, [], ◌∷◌, sym, subst, i
 use Rattle.std.specs.Borrow.{Bor}
 use Rattle.vc_files.specs.Files.{Bytes, Grows}
 use Rattle.vc_top.specs.Commands.{AnswersFile, AnswersFiles, AnswersTexts, IsPlan}
-use Rattle.vc_top.specs.Inputs.{ReadsFile}
+use Rattle.vc_top.specs.Inputs.{Input, ReadsFile}
 use Rattle.vc_top.specs.Outcomes.{Answer, Outcome, OrMemory, Then}
 use Rattle.vc_top.specs.Plans.{Answers, Plan, files_of, of_file, of_files, of_texts, unbuilt}
 use Rattle.vc_top.specs.Seen.{Seen}

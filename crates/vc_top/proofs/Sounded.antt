@@ -1,5 +1,5 @@
 -- A file whose circuit is refused is not read.
-use Rattle.std.proofs.Common.{◌≡◌, Bool, List, Result, Ok, Err, sym, refl, subst, inl, inr}
+use Rattle.std.proofs.Common.{◌≡◌, Bool, List, Result, Ok, Err, sym, subst, inl, inr}
 use Rattle.vc_aut.specs.Labelled.{Labelled}
 use Rattle.vc_files.specs.Files.{Bytes}
 use Rattle.vc_label.specs.declared.tape_set.TapeSet.{TapeSet}
@@ -7,7 +7,7 @@ use Rattle.vc_lines.specs.Heads.{HeadLine}
 use Rattle.vc_ring.specs.Texts.{WeightTexts}
 use Rattle.vc_top.specs.Inputs.{HasRefusedCircuit, Input, IsSoundInput, ReadsFile, ReadsLines, ReadsSound, ReadsText, SoundOnly}
 use Rattle.vc_top.specs.Outcomes.{OrMemory}
-use Rattle.vc_top.specs.Reasons.{Reason, empty_circuit, in_line, no_memory, syntax}
+use Rattle.vc_top.specs.Reasons.{Reason, empty_circuit, no_memory}
 use Rattle.vc_top.specs.Seen.{Seen}
 use Rattle.vc_top.specs.Sets.{absorbs, texts_of}
 use Rattle.vc_top.proofs.Outcomes.{then_given, then_refused}

@@ -203,7 +203,7 @@ fn product_of_nullable<'w, K: LabelSet, M: LabelSet, S: Semiring>(
     requires limit { IsLimit limit }
     requires first { IsTrue K.SINGLE }
     requires second { IsTrue M.SINGLE }
-    requires kind { (s t : TapeSet) → first.now.sets ≡ s ∷ [] → second.now.sets ≡ t ∷ []
+    requires kind { (k : K) (m : M) (s t : TapeSet) → K.sets k ≡ s ∷ [] → M.sets m ≡ t ∷ []
         → joint_kind s.kind t.kind ≡ NullableKind }
     ensures { OrMemory (AnswersProductOver ⟦<S as Weighed>⟧.texts product limit S.ABSORBS weights
         first.now second.now) (answer_of result) }
@@ -243,7 +243,22 @@ fn product_over<'w, S: Semiring>(
         (AnyOf::Nullable(a), AnyOf::Nullable(b)) => {
             product_of_nullable(alloc, product, weights, a, b, limit)
         }
-        _ => Err(Refusal::Contexts),
+        (AnyOf::Words(a), _) => {
+            let _ = a.labels();
+            Err(Refusal::Contexts)
+        }
+        (AnyOf::Tuple(a), _) => {
+            let _ = a.labels();
+            Err(Refusal::Contexts)
+        }
+        (_, AnyOf::Words(b)) => {
+            let _ = b.labels();
+            Err(Refusal::Contexts)
+        }
+        (_, AnyOf::Tuple(b)) => {
+            let _ = b.labels();
+            Err(Refusal::Contexts)
+        }
     }
 }
 

@@ -1,4 +1,3 @@
-use Rattle.std.proofs.Common.{Ok, Err}
 use Rattle.vc_ring.specs.Weighed.{weighed}
 use Rattle.vc_top.specs.Reasons.{reason_of}
 use Rattle.vc_top.specs.Views.{seen_by}

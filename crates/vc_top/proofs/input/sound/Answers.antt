@@ -1,4 +1,4 @@
-use Rattle.std.proofs.Common.{length, ap, refl, inl, inr}
+use Rattle.std.proofs.Common.{length, ap, refl, inr}
 use Rattle.std.specs.Prelude.{is_some}
 use Rattle.vc_model.specs.Automata.{NoEmptyCircuit}
 use Rattle.vc_top.proofs.Closed.{none_refused}

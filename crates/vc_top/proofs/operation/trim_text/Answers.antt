@@ -1,4 +1,4 @@
-use Rattle.std.proofs.Common.{List, ap, length, refl, subst}
+use Rattle.std.proofs.Common.{List, ap, length, subst}
 use Rattle.vc_label.specs.declared.tape_set.TapeSet.{TapeSet}
 use Rattle.vc_model.specs.Automata.{IsAutomaton}
 use Rattle.vc_ring.specs.Weighed.{weighed}

@@ -3,7 +3,6 @@ use Rattle.std.specs.Prelude.{string_bytes}
 use Rattle.vc_top.specs.Contexts.{AnswersContext}
 use Rattle.vc_top.specs.Evaluations.{AnswersEval}
 use Rattle.vc_top.specs.Expressions.{AnswersExpr}
-use Rattle.vc_top.specs.Products.{AnswersProduct}
 use Rattle.vc_top.specs.Standards.{AnswersEvalText, AnswersStandard}
 use Rattle.vc_top.proofs.plan.plan_of.Goals as goal
 
