@@ -19,9 +19,9 @@ use vc_search::members_are_few;
 /// Over files that tell their bytes, a request allows one answer alone, but for faults of reading
 /// and want of memory; and where a number does not fit and a limit is passed in one file, or in
 /// what is done with what was read, either may be answered; and a command whose text is open may
-/// print any that it allows; and where a step of a standard construction, of the removal of
-/// empty labels, or of a product, does not fit, or too many transitions or pairs of states are
-/// named, the command may be refused for it or answer. So where the cause of a refusal stands, this refusal is
+/// print any that it allows; and where a step of a standard construction, of the removal of empty
+/// labels, or of a product, does not fit, or too many transitions or pairs of states are named, the
+/// command may be refused for it or answer. So where the cause of a refusal stands, this refusal is
 /// answered, or one of these. A file or an expression that has too many bytes is refused for that
 /// alone.
 pub fn answers_are_determined()
