@@ -32,39 +32,6 @@ use Rattle.vc_top.specs.declared.product.Product.{Product}
 use Rattle.vc_top.specs.declared.product.Product.TheVariants.{Conjunction, Shuffle}
 use Rattle.vc_top.specs.declared.refusal.Bound.TheVariants.{Of}
 
-abbrev given : {X : Type 0} → X → Result X Reason
-given x = Ok x
-
-abbrev refused : {X : Type 0} → Reason → Result X Reason
-refused r = Err r
-
-same_given : {X : Type 0} (x y : X) → given x ≡ given y → x ≡ y
-same_given x y e = cc e
-
-same_refused : {X Y : Type 0} (r s : Reason) → refused {X = X} r ≡ refused s → refused {X = Y} r ≡ refused s
-same_refused r s e = cc e
-
-no_given : {X : Type 0} (x : X) (r : Reason) → given x ≡ refused r → ⊥
-no_given x r e = cc e
-
--- a part of the automaton without empty labels is known, and what comes after for the whole
-module _ {V X Y : Type 0} (T : WeightTexts V) (is_absorbing : Bool) (a : Labelled V) (view : Labelled V → X) (rest : Labelled V → Outcome Y) where
-  viewed : (v : X) (b : Result Y Reason) → OrMemory (WithProper T is_absorbing a (λ p. Gives (view p))) (Ok v) → ((p : Labelled V) → IsProperOf T a p → view p ≡ v → OrMemory (rest p) b) → OrMemory (WithProper T is_absorbing a rest) b
-  viewed v b (inl e) f = absurd (no_given v no_memory e)
-  viewed v b (inr (inl p)) f = absurd (no_given v empty_circuit p.1)
-  viewed v b (inr (inr (n, inl p))) f = absurd (no_given v p.0 p.2)
-  viewed v b (inr (inr (n, inr (p, m, e)))) f = go (f p m (sym (same_given v (view p) e)))
-    where
-      go : OrMemory (rest p) b → OrMemory (WithProper T is_absorbing a rest) b
-      go (inl e) = inl e
-      go (inr q) = inr (inr (n, inr (p, m, q)))
-
-  unviewed : (r : Reason) → OrMemory (WithProper T is_absorbing a (λ p. Gives (view p))) (Err r) → OrMemory (WithProper T is_absorbing a rest) (Err r)
-  unviewed r (inl e) = inl (same_refused {X = X} {Y = Y} r no_memory e)
-  unviewed r (inr (inl p)) = inr (inl (p.0, same_refused {X = X} {Y = Y} r empty_circuit p.1))
-  unviewed r (inr (inr (n, inl p))) = inr (inr (n, inl (p.0, p.1, same_refused {X = X} {Y = Y} r p.0 p.2)))
-  unviewed r (inr (inr (n, inr (p, m, e)))) = absurd (no_given (view p) r (sym e))
-
 -- the series of a product is made of the values of both series at words of one tape
 pub same_series : {V : Type 0} (T : WeightTexts V) → SemiringLaws T.set → (product : Product) (f g h k : Series V) → SameOn 1 f h → SameOn 1 g k → (u : Tape) → series_of product T.set f g (u ∷ []) ≡ series_of product T.set h k (u ∷ [])
 same_series T L Conjunction f g h k s t u = ap₂ T.set.times (s (u ∷ []) refl) (t (u ∷ []) refl)
@@ -96,6 +63,15 @@ module _ {V : Type 0} (T : WeightTexts V) (product : Product) (most : ℕ) (is_a
   abbrev After : Labelled V → Outcome Bytes
   After p = WithProper T is_absorbing b (λ q. Product_of p.automaton q.automaton)
 
+  -- one of both without empty labels, and what comes after for it
+  module _ (c : Labelled V) (next : Labelled V → Outcome Bytes) where
+    closed_given : (v : Automaton V) (r : Answer) → OrMemory (WithProper T is_absorbing c (λ p. Gives p.automaton)) (Ok v)
+        → ((p : Labelled V) → IsProperOf T c p → p.automaton ≡ v → OrMemory (next p) r) → OrMemory (WithProper T is_absorbing c next) r
+    closed_given v r h f = part_given (HasRefusedCircuit is_absorbing c) empty_circuit (IsUnclosed T c) (IsProperOf T c) of_automaton next v r h f
+
+    closed_refused : (r : Reason) → OrMemory (WithProper T is_absorbing c (λ p. Gives p.automaton)) (Err r) → OrMemory (WithProper T is_absorbing c next) (Err r)
+    closed_refused r h = part_refused (HasRefusedCircuit is_absorbing c) empty_circuit (IsUnclosed T c) (IsProperOf T c) of_automaton next r h
+
   one_tape : {ss : List TapeSet} {s : TapeSet} → ss ≡ s ∷ [] → length ss ≡ 1
   one_tape e = ap length e
 
@@ -103,8 +79,8 @@ module _ {V : Type 0} (T : WeightTexts V) (product : Product) (most : ℕ) (is_a
   closed_both : (A B : Automaton V) (r : Answer) → OrMemory (WithProper T is_absorbing a (λ p. Gives p.automaton)) (Ok A) → OrMemory (WithProper T is_absorbing b (λ p. Gives p.automaton)) (Ok B)
       → ((f g : Series V) → SameOn 1 (coefficient T.set A) f → SameOn 1 (coefficient T.set B) g → OrMemory (WithProduct T product most sets f g A B rest) r) → OrMemory (WithProper T is_absorbing a After) r
   closed_both A B r h k given_product =
-      viewed T is_absorbing a of_automaton After A r h (λ p s e.
-      viewed T is_absorbing b of_automaton (λ q. Product_of p.automaton q.automaton) B r k (λ q t d.
+      closed_given a After A r h (λ p s e.
+      closed_given b (λ q. Product_of p.automaton q.automaton) B r k (λ q t d.
       subst (λ (x : Automaton V). OrMemory (Product_of x q.automaton) r) (sym e) (subst (λ (x : Automaton V). OrMemory (Product_of A x) r) (sym d)
       (given_product (coefficient T.set a.automaton) (coefficient T.set b.automaton)
       (λ w l. ap (λ (x : Automaton V). coefficient T.set x w) (sym e) ∙ s.series w (l ∙ sym (one_tape joint.is_first)))
@@ -112,10 +88,10 @@ module _ {V : Type 0} (T : WeightTexts V) (product : Product) (most : ℕ) (is_a
 
   -- the second is not made
   unclosed_second : (A : Automaton V) (r : Reason) → OrMemory (WithProper T is_absorbing a (λ p. Gives p.automaton)) (Ok A) → OrMemory (WithProper T is_absorbing b (λ p. Gives p.automaton)) (Err r) → OrMemory (WithProper T is_absorbing a After) (Err r)
-  unclosed_second A r h k = viewed T is_absorbing a of_automaton After A (Err r) h (λ p s e. unviewed T is_absorbing b of_automaton (λ q. Product_of p.automaton q.automaton) r k)
+  unclosed_second A r h k = closed_given a After A (Err r) h (λ p s e. closed_refused b (λ q. Product_of p.automaton q.automaton) r k)
 
   unclosed_first : (r : Reason) → OrMemory (WithProper T is_absorbing a (λ p. Gives p.automaton)) (Err r) → OrMemory (WithProper T is_absorbing a After) (Err r)
-  unclosed_first r h = unviewed T is_absorbing a of_automaton After r h
+  unclosed_first r h = closed_refused a After r h
 
 module _ {V : Type 0} (T : WeightTexts V) (product : Product) (most : ℕ) (is_absorbing : Bool) (w : Weights) (a b : Labelled V) (sets : List TapeSet) (joint : AreJoint a.sets b.sets sets) where
   -- the label sets fit
@@ -140,11 +116,6 @@ pub joint_sets : (ss ts us : List TapeSet) (s t u : TapeSet) → ss ≡ s ∷ []
 joint_sets ss ts us s t u e f h i j k l = record { first = s; second = t; joint = u; is_first = e; is_second = f; is_joint = h; first_short = i; second_short = j; kind = k; letters = l }
 
 -- a kind is within the joint one
-first_within : (k l : TapeKind) → IsShortKind k → IsKindWithin k (joint_kind k l)
-first_within Letters l h = tt
-first_within Nullable l h = tt
-first_within Words l h = absurd h
-
 second_within : (k l : TapeKind) → IsShortKind k → IsShortKind l → IsKindWithin l (joint_kind k l)
 second_within k Letters h i = tt
 second_within Letters Nullable h i = tt
@@ -163,35 +134,10 @@ sets_within : {ss us : List TapeSet} (s u : TapeSet) → ss ≡ s ∷ [] → us 
 sets_within {ss} {us} s u e f w = subst (λ xs. AreWithin xs us) (sym e) (subst (λ ys. AreWithin (s ∷ []) ys) (sym f) (w, tt))
 
 module _ (ss ts us : List TapeSet) (j : AreJoint ss ts us) where
-  pub within_first : AreWithin ss us
-  within_first =
-      sets_within j.first j.joint j.is_first j.is_joint (one_within j.first j.joint (subst (λ k. IsKindWithin j.first.kind k) (sym j.kind) (first_within j.first.kind j.second.kind j.first_short))
-      (λ x e. j.letters x ∙ ap (λ b. b || has_letter j.second.alphabet x) e))
-
   pub within_second : AreWithin ts us
   within_second =
       sets_within j.second j.joint j.is_second j.is_joint (one_within j.second j.joint (subst (λ k. IsKindWithin j.second.kind k) (sym j.kind) (second_within j.first.kind j.second.kind j.first_short j.second_short))
       (λ x e. j.letters x ∙ ap (λ b. has_letter j.first.alphabet x || b) e ∙ or_true (has_letter j.first.alphabet x)))
-
--- those that are no single sets fit with none
-one_short : (ss : List TapeSet) (s : TapeSet) → ss ≡ s ∷ [] → IsShortKind s.kind → AreSingleSets ss
-one_short ss s e k = subst AreSingleSets (sym e) k
-
-pub no_first : (ss ts us : List TapeSet) → ¬ AreSingleSets ss → ¬ AreJoint ss ts us
-no_first ss ts us n j = n (one_short ss j.first j.is_first j.first_short)
-
-pub no_second : (ss ts us : List TapeSet) → ¬ AreSingleSets ts → ¬ AreJoint ss ts us
-no_second ss ts us n j = n (one_short ts j.second j.is_second j.second_short)
-
-module _ {V : Type 0} (T : WeightTexts V) (product : Product) (most : ℕ) (is_absorbing : Bool) (w : Weights) (a b : Labelled V) where
-  pub not_joint : ((us : List TapeSet) → ¬ AreJoint a.sets b.sets us) → OrMemory (AnswersProductOver T product most is_absorbing w a b) (Err contexts)
-  not_joint n = inr (inl (n, refl))
-
--- the sets of a tuple are several
-pub tuples_several : (s : Sets) → ¬ AreSingleSets (sets_of s)
-tuples_several (Two a b) h = h
-tuples_several (Three a b c) h = h
-tuples_several (Four a b c d) h = h
 
 pub one_of_single : (ss : List TapeSet) → AreSingleSets ss → length ss ≡ 1
 one_of_single [] h = absurd h

@@ -32,20 +32,31 @@ module _ {X : Type 0} (cause : Type 0) (reason : Reason) (IsCause : Reason → T
   pub is_not_made : {Y : Type 0} (rest : X → Outcome Y) (r : Reason) → ¬ cause → IsCause r → OrMemory (Making rest) (Err r)
   is_not_made rest r n c = inr (inr (n, inl (r, c, refl)))
 
-  -- what comes after for what was made
-  pub made_given : {Y : Type 0} (rest : X → Outcome Y) (x : X) (b : Result Y Reason) → OrMemory (Making Gives) (Ok x) → (IsMade x → OrMemory (rest x) b) → OrMemory (Making rest) b
-  made_given rest x b (inl e) f = absurd (no_given x no_memory e)
-  made_given rest x b (inr (inl p)) f = absurd (no_given x reason p.1)
-  made_given rest x b (inr (inr (n, inl p))) f = absurd (no_given x p.0 p.2)
-  made_given {Y} rest x b (inr (inr (n, inr p))) f = go (f (subst IsMade (sym (same_given x p.0 p.2)) p.1))
+  -- a part of what was made is known, and what comes after for the whole
+  pub part_given : {Y Z : Type 0} (view : X → Z) (rest : X → Outcome Y) (v : Z) (b : Result Y Reason) → OrMemory (Making (λ x. Gives (view x))) (Ok v)
+      → ((x : X) → IsMade x → view x ≡ v → OrMemory (rest x) b) → OrMemory (Making rest) b
+  part_given view rest v b (inl e) f = absurd (no_given v no_memory e)
+  part_given view rest v b (inr (inl p)) f = absurd (no_given v reason p.1)
+  part_given view rest v b (inr (inr (n, inl p))) f = absurd (no_given v p.0 p.2)
+  part_given {Y} view rest v b (inr (inr (n, inr (x, m, e)))) f = go (f x m (sym (same_given v (view x) e)))
     where
       go : OrMemory (rest x) b → OrMemory (Making rest) b
-      go (inl m) = inl m
-      go (inr q) = inr (inr (n, inr (p.0, p.1, subst (λ y. rest y b) (same_given x p.0 p.2) q)))
+      go (inl e) = inl e
+      go (inr q) = inr (inr (n, inr (x, m, q)))
 
   -- the refusal of what was not made
+  pub part_refused : {Y Z : Type 0} (view : X → Z) (rest : X → Outcome Y) (r : Reason) → OrMemory (Making (λ x. Gives (view x))) (Err r) → OrMemory (Making rest) (Err r)
+  part_refused {Y} {Z} view rest r (inl e) = inl (same_reason {X = Z} {Y = Y} r no_memory e)
+  part_refused {Y} {Z} view rest r (inr (inl p)) = inr (inl (p.0, same_reason {X = Z} {Y = Y} r reason p.1))
+  part_refused {Y} {Z} view rest r (inr (inr (n, inl p))) = inr (inr (n, inl (p.0, p.1, same_reason {X = Z} {Y = Y} r p.0 p.2)))
+  part_refused view rest r (inr (inr (n, inr (x, m, e)))) = absurd (no_given (view x) r (sym e))
+
+  abbrev whole : X → X
+  whole x = x
+
+  -- what comes after for what was made
+  pub made_given : {Y : Type 0} (rest : X → Outcome Y) (x : X) (b : Result Y Reason) → OrMemory (Making Gives) (Ok x) → (IsMade x → OrMemory (rest x) b) → OrMemory (Making rest) b
+  made_given rest x b h f = part_given whole rest x b h (λ y m e. subst (λ z. OrMemory (rest z) b) (sym e) (f (subst IsMade e m)))
+
   pub made_refused : {Y : Type 0} (rest : X → Outcome Y) (r : Reason) → OrMemory (Making Gives) (Err r) → OrMemory (Making rest) (Err r)
-  made_refused {Y} rest r (inl e) = inl (same_reason {X = X} {Y = Y} r no_memory e)
-  made_refused {Y} rest r (inr (inl p)) = inr (inl (p.0, same_reason {X = X} {Y = Y} r reason p.1))
-  made_refused {Y} rest r (inr (inr (n, inl p))) = inr (inr (n, inl (p.0, p.1, same_reason {X = X} {Y = Y} r p.0 p.2)))
-  made_refused rest r (inr (inr (n, inr p))) = absurd (no_given p.0 r (sym p.2))
+  made_refused rest r h = part_refused whole rest r h

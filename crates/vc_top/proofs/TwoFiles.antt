@@ -41,8 +41,3 @@ module _ (held : Option Held) (old middle new : List Bytes) (first second : Byte
     -- the second is not
     pub second_unread : (r : Reason) → OrMemory (ReadsFile (seen held middle new) second) (Err r) → OrMemory Both (Err r)
     second_unread r p = after_first (Err r) (then_refused (ReadsFile (seen held old new) second) (rest x) r (file_over held old new middle new second failed_second (Err r) p))
-
--- a name of one of two files
-pub of_first : (first second name : Bytes) → In name (first ∷ []) → In name (first ∷ second ∷ [])
-of_first first second name (inl e) = inl e
-of_first first second name (inr i) = absurd i

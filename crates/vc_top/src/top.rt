@@ -139,12 +139,12 @@ pub fn refuse<E: Sink>(fault: RequestFault, err: &mut E) -> Status
 /// canonical text of the context, `expr C E` that of the expression that the identities make of the
 /// text, `standard C E` that of its standard automaton, `cat FILE` that of the file's automaton,
 /// `proper FILE` that of the file's automaton without empty labels, `trim FILE` that of the file's
-/// automaton with its useful states alone, `conjunction A B` and `shuffle A B` those of the products
-/// of two automata, over one weight set and over labels of at most one letter on one tape, and
-/// `eval FILE WORD` and `eval C E WORD` the coefficient
-/// of the file's automaton or of the expression at the word (Sakarovitch, Elements of Automata
-/// Theory), each with a line feed at its end. A file over `f2`, `z` or `q` whose automaton has a
-/// circuit of empty labels is refused. A request of a command that is not built yet is `Usage`.
+/// automaton with its useful states alone, `conjunction A B` and `shuffle A B` those of the
+/// products of two automata, over one weight set and over labels of at most one letter on one tape,
+/// and `eval FILE WORD` and `eval C E WORD` the coefficient of the file's automaton or of the
+/// expression at the word (Sakarovitch, Elements of Automata Theory), each with a line feed at its
+/// end. A file over `f2`, `z` or `q` whose automaton has a circuit of empty labels is refused. A
+/// request of a command that is not built yet is `Usage`.
 pub fn run<F: Files, O: Sink, E: Sink>(
     alloc: Global,
     words: &[String],
