@@ -1,5 +1,5 @@
 -- What a product of two automata answers.
-use Rattle.std.proofs.Common.{◌≡◌, ◌||◌, ℕ, Bool, true, false, List, [], ◌∷◌, length, Result, Ok, Err, refl, sym, ap, ap₂, ◌∙◌, subst, inl, inr}
+use Rattle.std.proofs.Common.{◌≡◌, ◌||◌, ℕ, Bool, true, false, List, [], ◌∷◌, length, Ok, Err, refl, sym, ap, ap₂, ◌∙◌, subst, inl, inr}
 use Rattle.vc_aut.specs.Labelled.{Labelled}
 use Rattle.vc_aut.specs.Wider.{AreWithin, IsKindWithin, IsWithin}
 use Rattle.vc_context.specs.declared.context.Weights.{Weights}
@@ -15,22 +15,15 @@ use Rattle.vc_model.specs.SumLaws.{sum_same}
 use Rattle.vc_model.specs.WeightSet.{SemiringLaws}
 use Rattle.vc_model.specs.Words.{Tape, letters_at, letters_off, position_sets}
 use Rattle.vc_ring.specs.Texts.{WeightTexts}
-use Rattle.vc_ring.specs.declared.faults.Limit.{Limit as Most}
-use Rattle.vc_ring.specs.declared.faults.MakeFault.{MakeFault}
-use Rattle.vc_ring.specs.declared.faults.MakeFault.TheVariants.{Overflow, Limit, Memory}
-use Rattle.vc_search.specs.Explored.{IsUnexplored}
-use Rattle.vc_tuple.specs.Tuples.{sets_of}
-use Rattle.vc_tuple.specs.declared.tuple.Sets.{Sets}
-use Rattle.vc_tuple.specs.declared.tuple.Sets.TheVariants.{Two, Three, Four}
 use Rattle.vc_top.specs.Automata.{Prints}
-use Rattle.vc_top.specs.Operations.{IsProperOf, WithProper}
+use Rattle.vc_top.specs.Inputs.{HasRefusedCircuit}
+use Rattle.vc_top.specs.Operations.{IsProperOf, IsUnclosed, WithProper}
 use Rattle.vc_top.specs.Outcomes.{Answer, Gives, Outcome, OrMemory}
-use Rattle.vc_top.specs.Products.{AnswersProductOver, AreJoint, HasManyPairs, IsProductOf, IsStepOf, WithProduct, first_of, items, joint_kind, series_of}
-use Rattle.vc_top.specs.Reasons.{Reason, contexts, empty_circuit, limit, no_memory, overflow}
-use Rattle.vc_top.specs.Refused.{make_reason}
+use Rattle.vc_top.specs.Products.{AnswersProductOver, AreJoint, HasManyPairs, IsProductOf, WithProduct, joint_kind, series_of}
+use Rattle.vc_top.specs.Reasons.{Reason, empty_circuit}
 use Rattle.vc_top.specs.declared.product.Product.{Product}
 use Rattle.vc_top.specs.declared.product.Product.TheVariants.{Conjunction, Shuffle}
-use Rattle.vc_top.specs.declared.refusal.Bound.TheVariants.{Of}
+use Rattle.vc_top.proofs.Made.{part_given, part_refused}
 
 -- the series of a product is made of the values of both series at words of one tape
 pub same_series : {V : Type 0} (T : WeightTexts V) → SemiringLaws T.set → (product : Product) (f g h k : Series V) → SameOn 1 f h → SameOn 1 g k → (u : Tape) → series_of product T.set f g (u ∷ []) ≡ series_of product T.set h k (u ∷ [])
@@ -44,13 +37,6 @@ module _ {V : Type 0} (T : WeightTexts V) (product : Product) (most : ℕ) (sets
   pub joined_given : (p : Labelled V) (r : Answer) → ¬ HasManyPairs T product most a b → IsProductOf T product most sets f g a b p → OrMemory (rest p) r → OrMemory (WithProduct T product most sets f g a b rest) r
   joined_given p r n s (inl e) = inl e
   joined_given p r n s (inr q) = inr (inr (inr (n, (p, s, q))))
-
-  -- why there is none
-  pub joined_not : (fault : MakeFault V) → IsUnexplored T.set (items T product most a b) (first_of T product most a b) (IsStepOf product T.set a b) most fault → OrMemory (WithProduct T product most sets f g a b rest) (Err (make_reason fault))
-  joined_not (Overflow o) h = inr (inl (overflow, inl (refl, (o, h)), refl))
-  joined_not (Limit l) (inl h) = inr (inr (inl (h.1, ap (λ (m : Most). refused (limit (Of m.what))) h.0)))
-  joined_not (Limit l) (inr h) = inr (inl (limit (Of l.what), inr (ap (λ (m : Most). limit (Of m.what)) h.0, h.1), refl))
-  joined_not (Memory e) h = inl refl
 
 -- both automata without empty labels, and what their product answers
 module _ {V : Type 0} (T : WeightTexts V) (product : Product) (most : ℕ) (is_absorbing : Bool) (rest : Labelled V → Outcome Bytes) (a b : Labelled V) (sets : List TapeSet) (joint : AreJoint a.sets b.sets sets) where

@@ -1,7 +1,6 @@
 -- What a command reads that reads two files.
 use Rattle.std.proofs.Common.{List, [], ◌∷◌, ◌++◌, Option, Result, Ok, Err, ap, ◌∙◌, inl, inr, append_assoc}
 use Rattle.vc_files.specs.Files.{Bytes, Grows, Held}
-use Rattle.vc_model.specs.Lists.{In}
 use Rattle.vc_model.specs.Members.{In-append_left, In-append_right}
 use Rattle.vc_top.specs.Inputs.{Input, ReadsBytes, ReadsFile}
 use Rattle.vc_top.specs.Outcomes.{Answer, Outcome, OrMemory, Then}
